@@ -1,0 +1,71 @@
+ghost use Rattle.std.specs.Prelude.{◌≡◌, ℕ, ◌+◌, ◌^◌, ◌<◌, ◌≤◌, List, length, slice_index, slice_set, IfOk, false};
+ghost use Rattle.mw_bus.specs.Memory.{ram_of, word_at, byte_at};
+
+use std::alloc::{AllocError as NoMemory, Global};
+use std::marker::Model;
+
+/// The bytes of RAM, from real address 0 on.
+pub const RAM_SIZE: usize = 16777216;
+
+/// The board's RAM, seen as a list of 16,777,216 bytes.
+#[derive(Drop)]
+pub struct Ram {
+    bytes: Vec<u8>,
+}
+
+impl Model for Ram {
+    ghost Value = { List ℕ };
+
+    ghost view = { λ r. r.bytes.items };
+
+    ghost invariant = { λ r. length r.bytes.items ≡ 16777216 };
+}
+
+impl Ram {
+    /// The image from address 0 on, with zeros behind it.
+    pub fn new(alloc: Global, image: &[u8]) -> Result<Ram, NoMemory>
+        requires { length image.now ≤ 16777216 }
+        ensures { IfOk result (λ r. r ≡ ram_of image.now) }
+    {
+        let mut bytes = Vec::from_slice(alloc, image)?;
+        bytes.resize(RAM_SIZE, 0)?;
+        Ok(Ram { bytes })
+    }
+
+    /// The byte at an address.
+    pub fn get(&self, at: u32) -> u8
+        requires { at < 2 ^ 24 }
+        ensures { result ≡ slice_index self.now at }
+    {
+        self.bytes[at as usize]
+    }
+
+    /// Sets the byte at an address, and no other.
+    pub fn put(&mut self, at: u32, byte: u8)
+        requires { at < 2 ^ 24 }
+        ensures { self.new ≡ slice_set self.old at byte }
+    {
+        self.bytes[at as usize] = byte;
+    }
+
+    /// The byte at a real address, all ones where RAM isn't.
+    fn byte(&self, at: u64) -> u8
+        ensures { result ≡ byte_at self.now at }
+    {
+        if at < 16777216 { self.bytes[at as usize] } else { 255 }
+    }
+
+    /// The little-endian word at a real address, as a fetch reads it: all ones where RAM isn't.
+    #[tactic(auto, unfolding(crate::specs::Memory::word_at))]
+    pub fn word(&self, at: u64) -> u32
+        requires { at < 2 ^ 60 }
+        ensures { result ≡ word_at false self.now at }
+    {
+        u32::from_le_bytes([
+            self.byte(at),
+            self.byte(at + 1),
+            self.byte(at + 2),
+            self.byte(at + 3),
+        ])
+    }
+}
