@@ -5,5 +5,4 @@ mod bytes;
 mod fields;
 
 pub use bytes::Bytes;
-pub use fields::field;
-pub use fields::sext;
+pub use fields::{field, sext};

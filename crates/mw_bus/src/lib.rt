@@ -3,5 +3,4 @@
 
 mod ram;
 
-pub use ram::RAM_SIZE;
-pub use ram::Ram;
+pub use ram::{RAM_SIZE, Ram};

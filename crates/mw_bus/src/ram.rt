@@ -52,7 +52,11 @@ impl Ram {
     fn byte(&self, at: u64) -> u8
         ensures { result ≡ byte_at self.now at }
     {
-        if at < 16777216 { self.bytes[at as usize] } else { 255 }
+        if at < 16777216 {
+            self.bytes[at as usize]
+        } else {
+            255
+        }
     }
 
     /// The little-endian word at a real address, as a fetch reads it: all ones where RAM isn't.

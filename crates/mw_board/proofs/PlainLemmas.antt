@@ -1,0 +1,46 @@
+-- One instruction of the plain board, from what its parts gave.
+use Rattle.std.proofs.Common.{◌≡◌, ℕ, true, false, Option, Some, None, refl, sym, ap, ap₂, ◌∙◌}
+use Rattle.mw_decode.specs.declared.insn.Insn.{Insn}
+use Rattle.mw_decode.specs.declared.insn.Decoded.{Decoded}
+use Rattle.mw_decode.specs.declared.insn.Decoded.TheVariants.{Insn as Is}
+use Rattle.mw_decode.specs.Decode.{decode_of}
+use Rattle.mw_isa.specs.declared.event.Event.TheVariants.{Retire}
+use Rattle.mw_isa.specs.declared.outcome.Operands.{Operands}
+use Rattle.mw_isa.specs.declared.outcome.Outcome.{Outcome}
+use Rattle.mw_isa.specs.State.{State}
+use Rattle.mw_isa.specs.Devices.{cycle_of}
+use Rattle.mw_isa.specs.Fetch.{fetched}
+use Rattle.mw_isa.specs.Execute.{operands_of, exec_of}
+use Rattle.mw_isa.specs.Step.{Stepped, after_of, decoded, is_built}
+use Rattle.mw_isa.specs.Replay.{acted}
+use Rattle.mw_isa.proofs.StepLaws.{step-known, builds-known, acted-retire}
+use Rattle.mw_board.specs.Plain.{Turns}
+
+-- what was fetched and what it decoded to
+pub record Met (state : State) (word : ℕ) (suffix : Option ℕ) (what : Decoded) : Type 0 where
+  pub word_is : word ≡ (fetched state).word
+  pub suffix_is : suffix ≡ (fetched state).suffix
+  pub what_is : what ≡ decode_of word suffix
+
+-- that is the next instruction
+met : (state : State) (word : ℕ) (suffix : Option ℕ) (what : Decoded) → Met state word suffix what → decoded state ≡ what
+met state word suffix what m = sym (m.what_is ∙ ap₂ decode_of m.word_is m.suffix_is)
+
+-- an instruction that isn't built
+pub turns-none : (state : State) (word : ℕ) (suffix : Option ℕ) (what : Decoded) → Met state word suffix what → is_built what ≡ false → Turns None state state
+turns-none state word suffix what m unbuilt = (builds-known state what (met state word suffix what m) ∙ unbuilt, refl)
+
+-- an instruction that is built
+pub turns-some : (state after : State) (word : ℕ) (suffix : Option ℕ) (insn : Insn) (operands : Operands) (outcome : Outcome) (cycle : ℕ) → Met state word suffix (Is insn) → is_built (Is insn) ≡ true → operands ≡ operands_of insn state.regs → exec_of insn operands state.regs.cia ≡ Some outcome → after ≡ after_of (Some outcome) state → cycle ≡ cycle_of state.devices → Turns (Some (Retire cycle state.regs.cia word suffix)) state after
+turns-some state after word suffix insn operands outcome cycle m built o e a at =
+    let d = met state word suffix (Is insn) m in
+    let x : exec_of insn (operands_of insn state.regs) state.regs.cia ≡ Some outcome = ap (λ (v : Operands). exec_of insn v state.regs.cia) (sym o) ∙ e in
+    record {
+      built = builds-known state (Is insn) d ∙ built;
+      cycle = at;
+      acts =
+          ap₂ (λ (w : ℕ) (s : Option ℕ). acted (Retire cycle state.regs.cia w s) state) m.word_is m.suffix_is
+          ∙ acted-retire cycle insn outcome state d built x
+          ∙ ap Some (sym a);
+      steps = ap (λ (r : Stepped). r.after) (step-known insn outcome state d x) ∙ sym a;
+    }

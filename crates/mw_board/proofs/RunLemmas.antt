@@ -1,0 +1,134 @@
+-- A run of the plain board: the events so far, the state, and where an instruction isn't built.
+use Rattle.std.proofs.Common.{◌≡◌, ℕ, zero, suc, ◌+◌, ◌-◌, ◌<◌, ◌≤◌, Bool, false, cond, List, [], ◌∷◌, ◌++◌, length, Some, None, option_map, refl, sym, ap, ap₂, ◌∙◌, subst, arith}
+use Rattle.std.specs.List.{range_with_len}
+use Rattle.std.specs.List.Sorted.{IsStrictlyIncreasing}
+use Rattle.std.specs.List.{All, Contains}
+use Rattle.std.proofs.lemmas.List.{map-append}
+use Rattle.std.proofs.lemmas.List.FromFn.{length-range_with_len, get_or-range_with_len}
+use Rattle.mw_isa.specs.declared.event.Event.{Event}
+use Rattle.mw_isa.specs.declared.event.End.TheVariants.{Ran}
+use Rattle.mw_bus.specs.Memory.{ram_of}
+use Rattle.mw_isa.specs.declared.regs.Regs.{Regs}
+use Rattle.mw_isa.specs.DeviceData.{DeviceData}
+use Rattle.mw_isa.specs.State.{State, state_of, brought}
+use Rattle.mw_isa.specs.Start.{start, start_regs}
+use Rattle.mw_isa.specs.Devices.{cycle_of, devices_at, start_devices}
+use Rattle.mw_isa.specs.Step.{step, builds}
+use Rattle.mw_isa.specs.Replay.{acted, replay, state_after, cycle_of_event, cycles_of}
+use Rattle.mw_isa.specs.Unbuilt.{unbuilt_from, first_unbuilt}
+use Rattle.mw_isa.specs.Runs.{Runs}
+use Rattle.mw_isa.proofs.StepLaws.{step-devices}
+use Rattle.mw_isa.proofs.ReplayLaws.{replay-push}
+use Rattle.mw_board.specs.Plain.{Turns}
+
+-- one more number of a range
+range_with_len-more : (a n j : ℕ) → a + n ≡ j → range_with_len a (n + 1) ≡ range_with_len a n ++ j ∷ []
+range_with_len-more a zero j e = let k : a ≡ j = omega arith in ap (λ (i : ℕ). i ∷ []) k
+range_with_len-more a (suc n) j e =
+    let k : suc n + 1 ≡ suc (n + 1) = omega arith in
+    let f : a + 1 + n ≡ j = omega arith in
+    ap (range_with_len a) k ∙ ap (λ (xs : List ℕ). a ∷ xs) (range_with_len-more (a + 1) n j f)
+
+-- the numbers of a range rise
+range-rises : (n : ℕ) → IsStrictlyIncreasing (range_with_len 0 n)
+range-rises n k h =
+    let length_is = length-range_with_len 0 n in
+    let here = get_or-range_with_len 0 n k 0 (omega arith) in
+    let next = get_or-range_with_len 0 n (k + 1) 0 (omega arith) in
+    omega arith
+
+-- and are below its end
+range-below : (n : ℕ) → All (λ cycle. cycle < n) (range_with_len 0 n)
+range-below n k d h =
+    let length_is = length-range_with_len 0 n in
+    let here = get_or-range_with_len 0 n k d (omega arith) in
+    omega arith
+
+-- it has each number below its end
+range-contains : (n i : ℕ) → i < n → Contains (range_with_len 0 n) i
+range-contains n i h =
+    let length_is = length-range_with_len 0 n in
+    let here = get_or-range_with_len 0 n i i h in
+    (i, omega arith, omega arith)
+
+-- how far a run has come: the events lead to the state, there is one a cycle, and what isn't built is still ahead
+pub record IsMade (image : List ℕ) (n : ℕ) (events : List Event) (cycle : ℕ) (state : State) : Type 0 where
+  pub made : replay events (start image) ≡ Some state
+  pub cycles : cycles_of events ≡ range_with_len 0 cycle
+  pub ahead : unbuilt_from (n - cycle) cycle state ≡ first_unbuilt image n
+  pub stands : cycle_of state.devices ≤ cycle
+
+-- at the start
+pub made-start : (image : List ℕ) (n : ℕ) → IsMade image n [] 0 (start image)
+unfolding first_unbuilt start
+made-start image n =
+    let whole : n - 0 ≡ n = omega arith in
+    record {
+      made = refl;
+      cycles = refl;
+      ahead = ap (λ (k : ℕ). unbuilt_from k 0 (start image)) whole;
+      stands = omega arith;
+    }
+
+-- one instruction further
+pub made-more : (image : List ℕ) (n : ℕ) (events : List Event) (cycle : ℕ) (event : Event) (state after : State) → cycle < n → IsMade image n events cycle state → Turns (Some event) (brought cycle state) after → IsMade image n (events ++ event ∷ []) (cycle + 1) after
+made-more image n events cycle event state after below m t =
+    let left : n - cycle ≡ suc (n - (cycle + 1)) = omega arith in
+    let from : 0 + cycle ≡ cycle = omega arith in
+    let d : after.devices ≡ (brought cycle state).devices = ap (λ (s : State). s.devices) (sym t.steps) ∙ step-devices (brought cycle state) in
+    let at : cycle_of after.devices ≡ cycle = ap cycle_of d in
+    let u : unbuilt_from (n - cycle) cycle state ≡ unbuilt_from (n - (cycle + 1)) (cycle + 1) after =
+    ap (λ (l : ℕ). unbuilt_from l cycle state) left
+    ∙ ap₂ (λ (b : Bool) (s : State). cond b (unbuilt_from (n - (cycle + 1)) (cycle + 1) s) (Some (cycle, state.regs.cia))) t.built t.steps in
+    record {
+      made = replay-push events event (start image) state after m.made (ap (λ (k : ℕ). acted event (brought k state)) t.cycle ∙ t.acts);
+      cycles = map-append cycle_of_event events (event ∷ []) ∙ ap₂ (λ (xs : List ℕ) (k : ℕ). xs ++ k ∷ []) m.cycles t.cycle ∙ sym (range_with_len-more 0 cycle cycle from);
+      ahead = sym u ∙ m.ahead;
+      stands = omega arith;
+    }
+
+-- an instruction that isn't built is the first one
+pub made-unbuilt : (image : List ℕ) (n : ℕ) (events : List Event) (cycle : ℕ) (state : State) → cycle < n → IsMade image n events cycle state → builds (brought cycle state) ≡ false → first_unbuilt image n ≡ Some (cycle, state.regs.cia)
+made-unbuilt image n events cycle state below m u =
+    let left : n - cycle ≡ suc (n - (cycle + 1)) = omega arith in
+    sym m.ahead
+    ∙ ap (λ (l : ℕ). unbuilt_from l cycle state) left
+    ∙ ap (λ (b : Bool). cond b (unbuilt_from (n - (cycle + 1)) (cycle + 1) (step (brought cycle state)).after) (Some (cycle, state.regs.cia))) u
+
+-- a run to its end met none
+pub made-built : (image : List ℕ) (n : ℕ) (events : List Event) (state : State) → IsMade image n events n state → first_unbuilt image n ≡ None
+made-built image n events state m =
+    let none : n - n ≡ 0 = omega arith in
+    sym m.ahead ∙ ap (λ (k : ℕ). unbuilt_from k n state) none
+
+-- a run to its end has the headline
+pub made-runs : (image : List ℕ) (n : ℕ) (events : List Event) (state : State) → length image ≤ 16777216 → IsMade image n events n state → Runs image n events (Ran n) (brought n state)
+unfolding state_after
+made-runs image n events state fits m = record {
+  fits = fits;
+  stops = refl;
+  rising = subst IsStrictlyIncreasing (sym m.cycles) (range-rises n);
+  below = subst (All (λ (cycle : ℕ). cycle < n)) (sym m.cycles) (range-below n);
+  replayed = ap (option_map (brought n)) m.made;
+  lively = λ first h. (first, omega arith, omega arith, subst (λ (xs : List ℕ). Contains xs first) (sym m.cycles) (range-contains n first (omega arith)));
+}
+
+-- at the start, from its parts
+pub made-init : (image : List ℕ) (n : ℕ) (events : List Event) (regs : Regs) (ram : List ℕ) (devices : DeviceData) → events ≡ [] → regs ≡ start_regs → ram ≡ ram_of image → devices ≡ start_devices → IsMade image n events 0 (state_of regs ram devices)
+unfolding start
+made-init image n events regs ram devices e r m d =
+    let s : start image ≡ state_of regs ram devices =
+    ap₂ (λ (x : Regs) (y : List ℕ). state_of x y start_devices) (sym r) (sym m) ∙ ap (state_of regs ram) (sym d) in
+    subst (λ (es : List Event). IsMade image n es 0 (state_of regs ram devices)) (sym e) (subst (IsMade image n [] 0) s (made-start image n))
+
+-- one instruction further, from its parts
+pub made-next : (image : List ℕ) (n : ℕ) (events more : List Event) (cycle : ℕ) (event : Event) (state after : State) (devices : DeviceData) → cycle < n → IsMade image n events cycle state → devices ≡ devices_at state.devices cycle → Turns (Some event) (state_of state.regs state.ram devices) after → more ≡ events ++ event ∷ [] → IsMade image n more (cycle + 1) after
+made-next image n events more cycle event state after devices below m d t e =
+    let u = subst (λ (v : DeviceData). Turns (Some event) (state_of state.regs state.ram v) after) d t in
+    subst (λ (es : List Event). IsMade image n es (cycle + 1) after) (sym e) (made-more image n events cycle event state after below m u)
+
+-- the end, from its parts
+pub made-end : (image : List ℕ) (n : ℕ) (events : List Event) (cycle : ℕ) (state : State) (devices : DeviceData) → length image ≤ 16777216 → cycle ≡ n → IsMade image n events cycle state → devices ≡ devices_at state.devices n → Runs image n events (Ran n) (state_of state.regs state.ram devices)
+made-end image n events cycle state devices fits at m d =
+    let r = made-runs image n events state fits (subst (λ (k : ℕ). IsMade image n events k state) at m) in
+    subst (λ (v : DeviceData). Runs image n events (Ran n) (state_of state.regs state.ram v)) (sym d) r

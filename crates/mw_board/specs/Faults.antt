@@ -1,0 +1,12 @@
+-- When a run is refused.
+use Rattle.std.specs.Prelude.{ℕ, ◌≡◌, ◌<◌, ◌≤◌, List, length, Some}
+use Rattle.mw_board.specs.declared.run.RunFault.{RunFault}
+use Rattle.mw_board.specs.declared.run.RunFault.TheVariants.{ImageTooLarge, NoMemory, Unbuilt}
+use Rattle.mw_isa.specs.Unbuilt.{first_unbuilt}
+
+-- the cause of a refusal: an image that doesn't fit RAM; an instruction that isn't built, reached below n; want of
+-- memory is free
+abbrev pub HasCause : List ℕ → ℕ → RunFault → Type 0
+HasCause image n ImageTooLarge = 16777216 < length image
+HasCause image n (Unbuilt cycle cia) = (length image ≤ 16777216) × (first_unbuilt image n ≡ Some (cycle, cia))
+HasCause image n NoMemory = Unit {0}

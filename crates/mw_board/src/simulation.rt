@@ -1,0 +1,54 @@
+ghost use Rattle.std.specs.Prelude.{◌≡◌, ◌≤◌, ◌<◌, ◌↔◌, length, OnOk, IfOk, IfErr, None, Err};
+ghost use Rattle.std.specs.List.{range_with_len};
+ghost use Rattle.mw_isa.specs.State.{seen};
+ghost use Rattle.mw_isa.specs.Replay.{cycles_of};
+ghost use Rattle.mw_isa.specs.Runs.{Runs};
+ghost use Rattle.mw_isa.specs.Unbuilt.{first_unbuilt};
+ghost use Rattle.mw_board.specs.Faults.{HasCause};
+
+use crate::plain::turn;
+use crate::run::{Run, RunFault};
+use mw_bus::{RAM_SIZE, Ram};
+use mw_isa::{Devices, End, Events, Regs, State};
+use std::alloc::Global;
+
+/// Runs an image for `n` cycles, an instruction a cycle.
+pub fn simulate(alloc: Global, image: &[u8], n: u64) -> Result<Run, RunFault>
+    requires { n ≤ 4000000 }
+    ensures runs { IfOk result (λ run. Runs image.now n run.events run.end (seen run.state)) }
+    ensures each_cycle { IfOk result (λ run. cycles_of run.events ≡ range_with_len 0 n) }
+    ensures built { OnOk result (first_unbuilt image.now n ≡ None) }
+    ensures cause { IfErr result (HasCause image.now n) }
+    ensures too_large { (result ≡ Err RunFault.ImageTooLarge) ↔ (16777216 < length image.now) }
+{
+    if image.len() > RAM_SIZE {
+        return Err(RunFault::ImageTooLarge);
+    }
+    let Ok(ram) = Ram::new(alloc, image) else {
+        return Err(RunFault::NoMemory);
+    };
+    let mut state = State {
+        regs: Regs::new(),
+        ram,
+        devices: Devices::new(),
+    };
+    let mut events = Events::new(alloc);
+    for cycle in 0..n {
+        state.devices.advance(cycle);
+        let Some(event) = turn(&mut state) else {
+            return Err(RunFault::Unbuilt {
+                cycle,
+                cia: state.regs.cia,
+            });
+        };
+        let Ok(()) = events.push(event) else {
+            return Err(RunFault::NoMemory);
+        };
+    }
+    state.devices.advance(n);
+    Ok(Run {
+        events,
+        end: End::Ran { cycle: n },
+        state,
+    })
+}

@@ -1,0 +1,5 @@
+pub mod Places
+mod Leads
+pub mod InsnLemmas
+mod OperandLemmas
+pub mod Ranges

@@ -1,0 +1,133 @@
+ghost use Rattle.std.specs.Prelude.{◌≡◌, ◌<◌, IfSome, None, is_some};
+ghost use Rattle.mw_decode.specs.Decode.{OnInsn, IsInsn, decode_of, is_prefix, is_set, row_place};
+ghost use Rattle.mw_decode.specs.Rows.{row_count};
+ghost use Rattle.mw_decode.specs.Row.{matches, row_of};
+
+use crate::fields::fields_of_layout;
+use crate::groups::leading_place;
+use crate::insn::{Decoded, Insn};
+use crate::operands::operands;
+use crate::row::Row;
+use crate::table::{layout_at, row_at, rows};
+
+/// Whether `word` has the row's fixed parts.
+fn is_of_row(row: &Row, word: u32) -> bool
+    ensures { result ≡ matches (row_of row.now) word }
+{
+    word & row.mask == row.value
+}
+
+/// A bit of `word`, numbered from the left of its 32.
+fn bit(word: u32, at: u32) -> bool
+    requires { at < 32 }
+    ensures { result ≡ is_set word at }
+{
+    mw_bits::field(u64::from(word), 32 + at, 32 + at) == 1
+}
+
+/// Whether `word` is a prefix, which has a suffix behind it (Book I, instruction formats).
+pub fn is_prefix(word: u32) -> bool
+    ensures { result ≡ is_prefix word }
+{
+    mw_bits::field(u64::from(word), 32, 37) == 1
+}
+
+/// The place in the table of the row that matches `word`.
+fn place_of(word: u32) -> Option<u16>
+    ensures value { result ≡ row_place word }
+    ensures within { IfSome result (λ place. place < row_count) }
+{
+    let place = leading_place(word);
+    if usize::from(place) < rows().len() && is_of_row(row_at(place), word) {
+        Some(place)
+    } else {
+        None
+    }
+}
+
+/// What a word without a suffix is.
+#[tactic(auto, unfolding(crate::specs::Decode::decode_of))]
+fn decode_word(word: u32) -> Decoded
+    ensures { result ≡ decode_of word None }
+{
+    let Some(place) = place_of(word) else {
+        return Decoded::Illegal;
+    };
+    let row = row_at(place);
+    Decoded::Insn(Insn {
+        row: place,
+        ops: operands(word, fields_of_layout(layout_at(place))),
+        oe: row.oe && bit(word, 21),
+        rc: row.rc && bit(word, 31),
+        aa: row.absolute && bit(word, 30),
+        lk: row.links && bit(word, 31),
+    })
+}
+
+/// What `word` is, a plain word or a prefix with its suffix (Book I, instruction formats). Illegal
+/// is a word that no row of the table matches.
+#[tactic(auto, unfolding(crate::specs::Decode::decode_of))]
+pub fn decode(word: u32, suffix: Option<u32>) -> Decoded
+    requires { is_some suffix ≡ is_prefix word }
+    ensures value { result ≡ decode_of word suffix }
+    ensures insn { OnInsn IsInsn result }
+{
+    match suffix {
+        Some(_) => Decoded::Illegal,
+        None => decode_word(word),
+    }
+}
+
+#[cfg(test)]
+mod tests {
+    use super::*;
+
+    /// What a word is, with this suffix where it is a prefix.
+    fn decoded(word: u32, suffix: u32) -> Decoded {
+        if is_prefix(word) {
+            decode(word, Some(suffix))
+        } else {
+            decode(word, None)
+        }
+    }
+
+    /// The instruction's row, its operands, and OE, Rc, AA and LK.
+    struct Case(u32, u16, &'static [i64], [bool; 4]);
+
+    #[rattlefmt::skip]
+    static CASES: [Case; 9] = [
+        Case(0x3860_0005, 0, &[3, 0, 5], [false, false, false, false]), // li r3,5
+        Case(0x3860_ffff, 0, &[3, 0, -1], [false, false, false, false]), // li r3,-1
+        Case(0x3c60_8000, 1, &[3, 0, -32768], [false, false, false, false]), // lis r3,-32768
+        Case(0x6000_0000, 2, &[0, 0, 0], [false, false, false, false]), // nop
+        Case(0x7ca3_2214, 4, &[5, 3, 4], [false, false, false, false]), // add r5,r3,r4
+        Case(0x7ca3_2615, 4, &[5, 3, 4], [true, true, false, false]), // addo. r5,r3,r4
+        Case(0x4800_0000, 3, &[0], [false, false, false, false]), // b .
+        Case(0x4bff_fffe, 3, &[-4], [false, false, true, false]), // ba -4
+        Case(0x4800_0001, 3, &[0], [false, false, false, true]), // bl .
+    ];
+
+    #[test]
+    fn decodes(rt: HostRuntime) {
+        for Case(word, row, ops, forms) in &CASES {
+            match decoded(*word, 0) {
+                Decoded::Insn(insn) => {
+                    assert_eq!(rt; insn.row, *row);
+                    assert_eq!(rt; insn.ops.as_slice(), *ops);
+                    assert_eq!(rt; [insn.oe, insn.rc, insn.aa, insn.lk], *forms);
+                }
+                Decoded::Illegal => panic!(rt; "{word:x} is illegal"),
+            }
+        }
+    }
+
+    #[test]
+    fn refuses(rt: HostRuntime) {
+        for word in [0, 0x7ca3_2216, 0xffff_ffff, 0x0600_0000] {
+            assert!(rt;
+                matches!(decoded(word, 0x3860_0005), Decoded::Illegal),
+                "{word:x}"
+            );
+        }
+    }
+}

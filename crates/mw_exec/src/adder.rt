@@ -1,0 +1,27 @@
+ghost use Rattle.std.specs.Prelude.{◌≡◌};
+ghost use Rattle.mw_isa.specs.Execute.{adder_of};
+ghost use Rattle.mw_isa.specs.Shaped.{WritesFirst};
+
+use crate::operand::{operand, plain, unless_zero};
+use mw_decode::Insn;
+use mw_isa::{AdderRow, Operands, Outcome};
+
+/// The rows that add.
+pub fn add(row: AdderRow, insn: &Insn, operands: &Operands, cia: u64) -> Outcome
+    requires { WritesFirst insn.now }
+    ensures { result ≡ adder_of row insn.now operands.now cia }
+{
+    match row {
+        AdderRow::Addi => plain(
+            insn,
+            unless_zero(insn, 1, operands.a).wrapping_add(operand(insn, 2)),
+            cia,
+        ),
+        AdderRow::Addis => plain(
+            insn,
+            unless_zero(insn, 1, operands.a).wrapping_add(operand(insn, 2) << 16),
+            cia,
+        ),
+        AdderRow::Add => plain(insn, operands.a.wrapping_add(operands.b), cia),
+    }
+}

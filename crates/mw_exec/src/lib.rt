@@ -1,0 +1,10 @@
+//! What an instruction comes to, by the unit that its row belongs to.
+#![tactic(auto)]
+
+mod adder;
+mod branching;
+mod logic;
+mod operand;
+mod unit;
+
+pub use unit::exec;

@@ -1,0 +1,17 @@
+ghost use Rattle.std.specs.Prelude.{◌≡◌};
+ghost use Rattle.mw_isa.specs.Execute.{logic_of};
+ghost use Rattle.mw_isa.specs.Shaped.{WritesFirst};
+
+use crate::operand::{operand, plain};
+use mw_decode::Insn;
+use mw_isa::{LogicRow, Operands, Outcome};
+
+/// The rows that work on single bits.
+pub fn combine(row: LogicRow, insn: &Insn, operands: &Operands, cia: u64) -> Outcome
+    requires { WritesFirst insn.now }
+    ensures { result ≡ logic_of row insn.now operands.now cia }
+{
+    match row {
+        LogicRow::Ori => plain(insn, operands.a | operand(insn, 2), cia),
+    }
+}

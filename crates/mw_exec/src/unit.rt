@@ -1,0 +1,20 @@
+ghost use Rattle.std.specs.Prelude.{◌≡◌};
+ghost use Rattle.mw_decode.specs.Decode.{IsInsn};
+ghost use Rattle.mw_isa.specs.Execute.{exec_of};
+
+use crate::{adder, branching, logic};
+use mw_decode::Insn;
+use mw_isa::{Operands, Operation, Outcome, operation_at};
+
+/// What an instruction at the address `cia` comes to (Book I).
+#[tactic(auto, unfolding(mw_isa::specs::Execute::exec_of))]
+pub fn exec(insn: &Insn, operands: &Operands, cia: u64) -> Outcome
+    requires { IsInsn insn.now }
+    ensures { exec_of insn.now operands.now cia ≡ Some result }
+{
+    match operation_at(insn.row) {
+        Operation::Adder(row) => adder::add(row, insn, operands, cia),
+        Operation::Logic(row) => logic::combine(row, insn, operands, cia),
+        Operation::Branch(row) => branching::branch(row, insn, operands, cia),
+    }
+}

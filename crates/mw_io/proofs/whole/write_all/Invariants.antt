@@ -1,0 +1,14 @@
+use Rattle.std.proofs.Common.{length, take, ◌-◌, ◌≡◌, ◌≤◌}
+use Rattle.mw_io.specs.Outside.{with_more}
+use Rattle.mw_io.proofs.whole.write_all.Given as goal
+
+abbrev pub invariant-loop-at : goal.invariant-loop-at
+invariant-loop-at g l = record {
+  within : l.at ≤ length l.bytes;
+  taken : g.S.Sink.taken l.sink ≡ with_more (g.S.Sink.taken l.fn.sink) (take l.at l.bytes);
+  faults : g.S.Sink.faults l.fn.sink ≤ g.S.Sink.faults l.sink;
+  wants : g.S.Sink.wants l.fn.sink ≤ g.S.Sink.wants l.sink;
+}
+
+abbrev pub decreases-loop-at : goal.decreases-loop-at
+decreases-loop-at g l = length l.bytes - l.at

@@ -1,0 +1,5 @@
+pub mod Outside
+pub mod Real
+pub mod Shelf
+pub mod Sure
+pub mod Memory

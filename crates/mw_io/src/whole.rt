@@ -1,0 +1,103 @@
+// Whole pieces, by calls that may each do a part.
+ghost use Rattle.std.specs.Prelude.{◌≡◌, ◌+◌, ◌-◌, ◌^◌, ◌<◌, ◌≤◌, ◌↔◌, ◌++◌, ℕ, [], length, take, drop, IsTrue, OnOk, OnErr, IfOk, OnSome, IsErrOf, vec_len};
+ghost use Rattle.mw_io.specs.declared.sink.SinkFault.TheVariants.{Failed, NoMemory};
+ghost use Rattle.mw_io.specs.declared.whole.ReadFault.TheVariants.{Failed as ReadFailed, NoMemory as ReadNoMemory};
+ghost use Rattle.mw_io.specs.Outside.{Counts, IsReadOn, with_more};
+
+use crate::host::{Host, HostFailed};
+use crate::sink::{Sink, SinkFault};
+use std::alloc::{AllocError, Global};
+
+/// Writes all the bytes. After an `Err` the sink has taken a front of them.
+#[tactic(auto, using(crate::proofs::Pieces::with_more_again, crate::proofs::Pieces::with_more_all, crate::proofs::Pieces::with_more_none))]
+pub fn write_all<S: Sink>(sink: &mut S, bytes: &[u8]) -> Result<(), SinkFault>
+    ensures all { OnOk result (S.taken sink.new ≡ with_more (S.taken sink.old) bytes.now) }
+    ensures front { OnErr result ((k : ℕ) × (k ≤ length bytes.now) × (S.taken sink.new ≡ with_more (S.taken sink.old) (take k bytes.now))) }
+    ensures fault { Counts (S.faults sink.old) (S.faults sink.new) (IsErrOf result Failed) }
+    ensures want { Counts (S.wants sink.old) (S.wants sink.new) (IsErrOf result NoMemory) }
+{
+    let mut at = 0;
+    while at < bytes.len() {
+        at += sink.write(&bytes[at..])?;
+    }
+    Ok(())
+}
+
+/// Why a file was not read.
+#[derive(Clone, Copy, Debug, PartialEq, Eq)]
+pub enum ReadFault {
+    Failed,
+    NoMemory,
+}
+
+impl From<HostFailed> for ReadFault {
+    ghost from_gives = { λ _ e. e ≡ ReadFailed };
+
+    fn from(_: HostFailed) -> ReadFault {
+        ReadFault::Failed
+    }
+}
+
+impl From<AllocError> for ReadFault {
+    ghost from_gives = { λ _ e. e ≡ ReadNoMemory };
+
+    fn from(_: AllocError) -> ReadFault {
+        ReadFault::NoMemory
+    }
+}
+
+// The most bytes that one read asks for.
+const PIECE: usize = 65_536;
+
+// Reads up to `most` bytes and adds them to `bytes`. The answer 0 says that the file has ended.
+fn read_piece<H: Host>(
+    host: &mut H,
+    buf: &mut [u8],
+    most: usize,
+    bytes: &mut Vec<u8>,
+) -> Result<usize, ReadFault>
+    requires opened { IsTrue (H.is_open host.old) }
+    requires room { 0 < length buf.old }
+    requires some { 0 < most }
+    ensures within { IfOk result (λ n. n ≤ most) }
+    ensures len { IfOk result (λ n. vec_len bytes.new ≡ vec_len bytes.old + n) }
+    ensures adds { IfOk result (λ n. OnSome (H.files host.old) (bytes.new.items ≡ bytes.old.items ++ take n (H.rest host.old))) }
+    ensures left { IfOk result (λ n. OnSome (H.files host.old) (H.rest host.new ≡ drop n (H.rest host.old))) }
+    ensures end { IfOk result (λ n. OnSome (H.files host.old) ((n ≡ 0) ↔ (H.rest host.old ≡ []))) }
+    ensures passed { OnSome (H.files host.old) (IsReadOn most (H.rest host.old) (H.rest host.new)) }
+    ensures still_open { IsTrue (H.is_open host.new) }
+    ensures same_files { H.files host.new ≡ H.files host.old }
+    ensures cause { Counts (H.faults host.old) (H.faults host.new) (IsErrOf result ReadFailed) }
+    ensures stays_sound { IsTrue (H.is_sound host.old) → IsTrue (H.is_sound host.new) }
+    ensures sure { IsTrue (H.is_sound host.old) → IsErrOf result ReadFailed → ⊥ }
+{
+    let room = buf.len().min(most);
+    let count = host.read(&mut buf[..room])?;
+    bytes.extend_from_slice(&buf[..count])?;
+    Ok(count)
+}
+
+/// Reads the open file from where it is to its end, or to one byte past the limit where it goes on so long.
+pub fn read_up_to<H: Host>(alloc: Global, host: &mut H, limit: usize) -> Result<Vec<u8>, ReadFault>
+    requires opened { IsTrue (H.is_open host.old) }
+    requires limit { limit + 1 < 2 ^ 64 }
+    ensures bytes { IfOk result (λ bytes. OnSome (H.files host.old) (bytes.items ≡ take (limit + 1) (H.rest host.old))) }
+    ensures within { IfOk result (λ bytes. vec_len bytes ≤ limit + 1) }
+    ensures rest { IfOk result (λ bytes. OnSome (H.files host.old) (bytes.items ++ H.rest host.new ≡ H.rest host.old)) }
+    ensures passed { OnSome (H.files host.old) (IsReadOn (limit + 1) (H.rest host.old) (H.rest host.new)) }
+    ensures still_open { IsTrue (H.is_open host.new) }
+    ensures same_files { H.files host.new ≡ H.files host.old }
+    ensures cause { Counts (H.faults host.old) (H.faults host.new) (IsErrOf result ReadFailed) }
+    ensures stays_sound { IsTrue (H.is_sound host.old) → IsTrue (H.is_sound host.new) }
+    ensures sure { IsTrue (H.is_sound host.old) → IsErrOf result ReadFailed → ⊥ }
+{
+    let mut buf = [0; PIECE];
+    let mut bytes = Vec::new(alloc);
+    while bytes.len() <= limit {
+        let most = limit + 1 - bytes.len();
+        if read_piece(host, &mut buf, most, &mut bytes)? == 0 {
+            break;
+        }
+    }
+    Ok(bytes)
+}

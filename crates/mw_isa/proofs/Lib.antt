@@ -1,0 +1,4 @@
+-- What holds of each row of the table, of a step, of a replay and of the devices.
+pub mod RowLaws
+pub mod StepLaws
+pub mod ReplayLaws

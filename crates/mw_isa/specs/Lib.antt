@@ -1,0 +1,17 @@
+-- In reading order: the state and its start; one instruction; runs of events; their text and what it spells.
+pub mod Vectors
+pub mod DeviceData
+pub mod Devices
+pub mod State
+pub mod Start
+pub mod Fetch
+pub mod Operations
+pub mod Execute
+pub mod Shaped
+pub mod Step
+pub mod Replay
+pub mod Unbuilt
+pub mod Lively
+pub mod Runs
+pub mod Text
+pub mod Reading

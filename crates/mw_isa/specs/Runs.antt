@@ -1,0 +1,31 @@
+-- The headline, of a run's own image, number of cycles, events, end and last state:
+--
+-- Want of memory and faults of the outside apart, every image that fits RAM runs for every number of cycles up to
+-- 4,000,000; its events, registers and memory are those of the sequential Power machine at the printed cycles; and
+-- no 8,192 successive cycles are without an event.
+--
+-- Scripts, waits, devices beside the decrementer, interrupts and the update discipline aren't built yet, and a run
+-- that reaches an instruction that isn't built is refused.
+use Rattle.std.specs.Prelude.{ℕ, ◌≡◌, ◌≤◌, ◌<◌, List, length, Some, All}
+use Rattle.std.specs.List.Sorted.{IsStrictlyIncreasing}
+use Rattle.mw_isa.specs.declared.event.Event.{Event}
+use Rattle.mw_isa.specs.declared.event.End.{End}
+use Rattle.mw_isa.specs.declared.event.End.TheVariants.{Ran}
+use Rattle.mw_isa.specs.State.{State}
+use Rattle.mw_isa.specs.Replay.{cycles_of, state_after}
+use Rattle.mw_isa.specs.Lively.{IsLively}
+
+-- the events are a run of this image for n cycles, with this end and last state
+pub record Runs (image : List ℕ) (n : ℕ) (events : List Event) (end : End) (last : State) : Type 0 where
+  -- the image fits RAM
+  pub fits : length image ≤ 16777216
+  -- the run reached its number of cycles
+  pub stops : end ≡ Ran n
+  -- the cycles of the events rise
+  pub rising : IsStrictlyIncreasing (cycles_of events)
+  -- and are below the stop
+  pub below : All (λ cycle. cycle < n) (cycles_of events)
+  -- the machine replays the events, and the last state is what they leave at the stop
+  pub replayed : state_after image events n ≡ Some last
+  -- no 8,192 successive cycles are without an event
+  pub lively : IsLively events n

@@ -1,0 +1,83 @@
+-- The text of a run: lines of words, each line ended by a line feed.
+use Rattle.std.specs.Prelude.{ℕ, zero, suc, ◌+◌, ◌/◌, ◌%◌, ◌^◌, if◌then◌else◌, nat_lt, List, [], ◌∷◌, ◌++◌, Some, None, map, codes, decimal, slice_index}
+use Rattle.std.specs.List.{flat_map, join_with_byte, enumerate_from}
+use Rattle.mw_isa.specs.declared.event.Event.{Event}
+use Rattle.mw_isa.specs.declared.event.Event.TheVariants.{Retire, Trap, Irq}
+use Rattle.mw_isa.specs.declared.event.End.{End}
+use Rattle.mw_isa.specs.declared.event.End.TheVariants.{Ran}
+use Rattle.mw_isa.specs.declared.regs.Regs.{Regs}
+use Rattle.mw_isa.specs.DeviceData.{DeviceData}
+use Rattle.mw_isa.specs.Devices.{dec_of}
+use Rattle.mw_isa.specs.Vectors.{address_of}
+use Rattle.mw_isa.specs.State.{State}
+
+-- a hexadecimal digit, in lower case
+abbrev pub hex_digit : ℕ → ℕ
+hex_digit n = if nat_lt n 10 then 48 + n else 87 + n
+
+-- a number in so many hexadecimal digits
+unfoldable pub hex : ℕ → ℕ → List ℕ
+hex zero n = []
+hex (suc k) n = hex_digit (n / 16 ^ k % 16) ∷ hex k n
+
+-- words joined by blanks, and a line feed
+unfoldable pub line : List (List ℕ) → List ℕ
+line words = join_with_byte 32 words ++ 10 ∷ []
+
+-- the words of an event's line
+abbrev pub event_words : Event → List (List ℕ)
+event_words (Retire cycle cia word None) = codes "R" ∷ decimal cycle ∷ hex 16 cia ∷ hex 8 word ∷ []
+event_words (Retire cycle cia word (Some suffix)) = codes "R" ∷ decimal cycle ∷ hex 16 cia ∷ hex 8 word ∷ hex 8 suffix ∷ []
+event_words (Trap cycle cia vector) = codes "T" ∷ decimal cycle ∷ hex 16 cia ∷ hex 4 (address_of vector) ∷ []
+event_words (Irq cycle nia vector) = codes "I" ∷ decimal cycle ∷ hex 16 nia ∷ hex 4 (address_of vector) ∷ []
+
+-- the words of the end's line
+abbrev pub end_words : End → List (List ℕ)
+end_words (Ran cycle) = codes "end" ∷ codes "ran" ∷ decimal cycle ∷ []
+
+-- the words of a general purpose register's line
+abbrev pub gpr_words : ℕ × ℕ → List (List ℕ)
+gpr_words (number, content) = (codes "r" ++ decimal number) ∷ hex 16 content ∷ []
+
+-- a name and a content in so many digits
+abbrev pub named : List ℕ → ℕ → ℕ → List (List ℕ)
+named name digits content = name ∷ hex digits content ∷ []
+
+-- the words of the special registers' lines
+unfoldable pub special_words : Regs → DeviceData → List (List (List ℕ))
+special_words regs devices =
+    named (codes "cr") 8 regs.cr
+    ∷ named (codes "xer") 16 regs.xer
+    ∷ named (codes "lr") 16 regs.lr
+    ∷ named (codes "ctr") 16 regs.ctr
+    ∷ named (codes "tar") 16 regs.tar
+    ∷ named (codes "cia") 16 regs.cia
+    ∷ named (codes "msr") 16 regs.msr
+    ∷ named (codes "srr0") 16 regs.srr0
+    ∷ named (codes "srr1") 16 regs.srr1
+    ∷ named (codes "hsrr0") 16 regs.hsrr0
+    ∷ named (codes "hsrr1") 16 regs.hsrr1
+    ∷ named (codes "dar") 16 regs.dar
+    ∷ named (codes "dsisr") 8 regs.dsisr
+    ∷ named (codes "dec") 8 (dec_of devices)
+    ∷ named (codes "pidr") 8 regs.pidr
+    ∷ named (codes "sprg0") 16 (slice_index regs.sprg 0)
+    ∷ named (codes "sprg1") 16 (slice_index regs.sprg 1)
+    ∷ named (codes "sprg2") 16 (slice_index regs.sprg 2)
+    ∷ named (codes "sprg3") 16 (slice_index regs.sprg 3)
+    ∷ named (codes "hsprg0") 16 (slice_index regs.hsprg 0)
+    ∷ named (codes "hsprg1") 16 (slice_index regs.hsprg 1)
+    ∷ named (codes "prtbl") 16 regs.prtbl
+    ∷ []
+
+-- the words of the UART's line: no byte is sent yet
+abbrev pub uart_words : List (List ℕ)
+uart_words = codes "uart" ∷ codes "-" ∷ []
+
+-- the words of the lines behind the end's
+abbrev pub state_words : State → List (List (List ℕ))
+state_words state = map gpr_words (enumerate_from 0 state.regs.gpr) ++ special_words state.regs state.devices ++ uart_words ∷ []
+
+-- the text of a run: the events, the end, the registers and the UART
+unfoldable pub text_of : List Event → End → State → List ℕ
+text_of events end state = flat_map line (map event_words events ++ end_words end ∷ state_words state)

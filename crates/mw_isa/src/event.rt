@@ -1,0 +1,45 @@
+use crate::vector::Vector;
+
+/// What happens in a cycle: an instruction retires or traps, or an interrupt is taken.
+#[derive(Clone, Copy, Debug, PartialEq, Eq)]
+pub enum Event {
+    /// An instruction took effect.
+    Retire {
+        /// The cycle.
+        cycle: u64,
+        /// The instruction's address.
+        cia: u64,
+        /// Its word, the prefix where it has one.
+        word: u32,
+        /// The word behind a prefix.
+        suffix: Option<u32>,
+    },
+    /// An instruction raised an interrupt.
+    Trap {
+        /// The cycle.
+        cycle: u64,
+        /// The instruction's address.
+        cia: u64,
+        /// The interrupt.
+        vector: Vector,
+    },
+    /// An interrupt came between two instructions.
+    Irq {
+        /// The cycle.
+        cycle: u64,
+        /// The address of the next instruction.
+        nia: u64,
+        /// The interrupt.
+        vector: Vector,
+    },
+}
+
+/// How a run ends.
+#[derive(Clone, Copy, Debug, PartialEq, Eq)]
+pub enum End {
+    /// It reached the number of cycles that was asked for.
+    Ran {
+        /// That number.
+        cycle: u64,
+    },
+}

@@ -1,0 +1,58 @@
+use arrayvec::ArrayVec;
+
+/// A register that an instruction writes.
+#[derive(Clone, Copy, Debug, PartialEq, Eq)]
+pub enum Slot {
+    /// A general purpose register.
+    Gpr(u8),
+}
+
+impl Default for Slot {
+    fn default() -> Slot {
+        Slot::Gpr(0)
+    }
+}
+
+/// A register that an instruction writes, with its value once that is known.
+#[derive(Clone, Copy, Debug, Default, PartialEq, Eq)]
+pub struct Target {
+    /// The register.
+    pub slot: Slot,
+    /// Its value.
+    pub value: Option<u64>,
+}
+
+/// What an instruction reads of the registers.
+#[derive(Clone, Copy, Debug, PartialEq, Eq)]
+pub struct Operands {
+    /// The first register among the operands that is read.
+    pub a: u64,
+    /// The second.
+    pub b: u64,
+    /// The third.
+    pub c: u64,
+    /// The condition register.
+    pub cr: u32,
+    /// The fixed-point exception register.
+    pub xer: u64,
+    /// The link register.
+    pub lr: u64,
+    /// The count register.
+    pub ctr: u64,
+    /// The target address register.
+    pub tar: u64,
+    /// The machine state register.
+    pub msr: u64,
+}
+
+/// What an instruction comes to.
+#[derive(Drop)]
+pub enum Outcome {
+    /// It is done in one turn.
+    Done {
+        /// The registers that it writes.
+        targets: ArrayVec<Target, 8>,
+        /// The address of the next instruction.
+        next: u64,
+    },
+}

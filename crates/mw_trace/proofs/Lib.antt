@@ -1,0 +1,4 @@
+pub mod HexLemmas
+pub mod PieceLemmas
+pub mod NumeralLemmas
+pub mod SpellLemmas

@@ -1,0 +1,13 @@
+//! The text of a run: its events, its end and the registers, a line each.
+#![tactic(auto)]
+
+mod laws;
+mod lines;
+mod registers;
+#[cfg(test)]
+mod tests;
+mod text;
+mod words;
+
+pub use laws::texts_spell;
+pub use text::print;

@@ -1,0 +1,91 @@
+ghost use Rattle.std.specs.Prelude.{◌≡◌, [], ◌∷◌, ◌++◌, decimal, map, All, OnOk};
+ghost use Rattle.std.specs.List.{flat_map, join_with_byte};
+ghost use Rattle.std.specs.Option.{option_map_or};
+ghost use Rattle.mw_isa.specs.Text.{hex, line, event_words, end_words};
+ghost use Rattle.mw_isa.specs.Reading.{FitsEvent, FitsEnd};
+
+use crate::words::{add_decimal, add_hex};
+use mw_bits::Bytes;
+use mw_isa::{End, Event};
+use std::alloc::AllocError as NoMemory;
+
+/// Appends the first three words of an event: its kind, its cycle and an address.
+fn add_head(text: &mut Bytes, kind: &[u8], cycle: u64, at: u64) -> Result<(), NoMemory>
+    ensures { OnOk result
+        (text.new ≡ text.old ++ join_with_byte 32 (kind.now ∷ decimal cycle ∷ hex 16 at ∷ [])) }
+{
+    text.add(kind)?;
+    text.add(b" ")?;
+    add_decimal(text, cycle)?;
+    add_hex(text, 16, at)
+}
+
+/// Appends the word behind a prefix, if there is one.
+fn add_suffix(text: &mut Bytes, suffix: Option<u32>) -> Result<(), NoMemory>
+    ensures { OnOk result (text.new ≡ text.old ++ option_map_or (λ word. 32 ∷ hex 8 word) suffix []) }
+{
+    if let Some(word) = suffix {
+        add_hex(text, 8, u64::from(word))?;
+    }
+    Ok(())
+}
+
+/// Appends the words of an event.
+fn add_words(text: &mut Bytes, event: Event) -> Result<(), NoMemory>
+    ensures words { OnOk result (text.new ≡ text.old ++ join_with_byte 32 (event_words event)) }
+    ensures fits { OnOk result (FitsEvent event) }
+{
+    match event {
+        Event::Retire {
+            cycle,
+            cia,
+            word,
+            suffix,
+        } => {
+            add_head(text, b"R", cycle, cia)?;
+            add_hex(text, 8, u64::from(word))?;
+            add_suffix(text, suffix)
+        }
+        Event::Trap { cycle, cia, vector } => {
+            add_head(text, b"T", cycle, cia)?;
+            add_hex(text, 4, vector.address())
+        }
+        Event::Irq { cycle, nia, vector } => {
+            add_head(text, b"I", cycle, nia)?;
+            add_hex(text, 4, vector.address())
+        }
+    }
+}
+
+/// Appends the line of an event.
+#[tactic(auto, unfolding(mw_isa::specs::Text::line))]
+fn add_event(text: &mut Bytes, event: Event) -> Result<(), NoMemory>
+    ensures line { OnOk result (text.new ≡ text.old ++ line (event_words event)) }
+    ensures fits { OnOk result (FitsEvent event) }
+{
+    add_words(text, event)?;
+    text.add(b"\n")
+}
+
+/// Appends the lines of the events.
+pub fn add_events(text: &mut Bytes, events: &[Event]) -> Result<(), NoMemory>
+    ensures lines { OnOk result (text.new ≡ text.old ++ flat_map line (map event_words events.now)) }
+    ensures fit { OnOk result (All FitsEvent events.now) }
+{
+    for event in events {
+        add_event(text, *event)?;
+    }
+    Ok(())
+}
+
+/// Appends the line of the end.
+#[tactic(auto, unfolding(mw_isa::specs::Text::line))]
+pub fn add_end(text: &mut Bytes, end: End) -> Result<(), NoMemory>
+    ensures line { OnOk result (text.new ≡ text.old ++ line (end_words end)) }
+    ensures fits { OnOk result (FitsEnd end) }
+{
+    let End::Ran { cycle } = end;
+    text.add(b"end ran ")?;
+    add_decimal(text, cycle)?;
+    text.add(b"\n")
+}

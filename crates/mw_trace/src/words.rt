@@ -1,0 +1,49 @@
+ghost use Rattle.std.specs.Prelude.{◌≡◌, ◌-◌, ◌<◌, ◌≤◌, ◌∷◌, ◌++◌, length, decimal, OnOk};
+ghost use Rattle.mw_isa.specs.Text.{hex_digit, hex};
+
+use itoa::Buffer;
+use mw_bits::Bytes;
+use std::alloc::AllocError as NoMemory;
+
+/// The most hexadecimal digits that a number of 64 bits has.
+pub const MOST_DIGITS: usize = 16;
+
+/// The hexadecimal digit of a number below 16, in lower case.
+fn digit_of(value: u8) -> u8
+    requires { value < 16 }
+    ensures { result ≡ hex_digit value }
+{
+    if value < 10 {
+        b'0' + value
+    } else {
+        b'a' + (value - 10)
+    }
+}
+
+/// Writes the number in hexadecimal digits, as many as there is room for.
+fn write_hex(digits: &mut [u8], number: u64)
+    ensures { digits.new ≡ hex (length digits.old) number }
+{
+    let mut rest = number;
+    for place in (0..digits.len()).rev() {
+        digits[place] = digit_of((rest % 16) as u8);
+        rest /= 16;
+    }
+}
+
+/// Appends a blank and the number in so many hexadecimal digits.
+pub fn add_hex(text: &mut Bytes, digits: usize, number: u64) -> Result<(), NoMemory>
+    requires { digits ≤ 16 }
+    ensures { OnOk result (text.new ≡ text.old ++ 32 ∷ hex digits number) }
+{
+    let mut word = [b' '; MOST_DIGITS + 1];
+    write_hex(&mut word[1..=digits], number);
+    text.add(&word[..=digits])
+}
+
+/// Appends the number in decimal digits.
+pub fn add_decimal(text: &mut Bytes, number: u64) -> Result<(), NoMemory>
+    ensures { OnOk result (text.new ≡ text.old ++ decimal number) }
+{
+    text.add(Buffer::new().format(number).as_bytes())
+}
