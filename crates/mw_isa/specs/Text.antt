@@ -43,9 +43,9 @@ gpr_words (number, content) = (codes "r" ++ decimal number) ∷ hex 16 content �
 abbrev pub named : List ℕ → ℕ → ℕ → List (List ℕ)
 named name digits content = name ∷ hex digits content ∷ []
 
--- the words of the special registers' lines
-unfoldable pub special_words : Regs → DeviceData → List (List (List ℕ))
-special_words regs devices =
+-- the words of the lines of the registers that a program computes with, its address and its state
+unfoldable pub program_words : Regs → List (List (List ℕ))
+program_words regs =
     named (codes "cr") 8 regs.cr
     ∷ named (codes "xer") 16 regs.xer
     ∷ named (codes "lr") 16 regs.lr
@@ -53,7 +53,12 @@ special_words regs devices =
     ∷ named (codes "tar") 16 regs.tar
     ∷ named (codes "cia") 16 regs.cia
     ∷ named (codes "msr") 16 regs.msr
-    ∷ named (codes "srr0") 16 regs.srr0
+    ∷ []
+
+-- the words of the lines of the registers that interrupts write, of the decrementer and of the process ID
+unfoldable pub interrupt_words : Regs → DeviceData → List (List (List ℕ))
+interrupt_words regs devices =
+    named (codes "srr0") 16 regs.srr0
     ∷ named (codes "srr1") 16 regs.srr1
     ∷ named (codes "hsrr0") 16 regs.hsrr0
     ∷ named (codes "hsrr1") 16 regs.hsrr1
@@ -61,7 +66,12 @@ special_words regs devices =
     ∷ named (codes "dsisr") 8 regs.dsisr
     ∷ named (codes "dec") 8 (dec_of devices)
     ∷ named (codes "pidr") 8 regs.pidr
-    ∷ named (codes "sprg0") 16 (slice_index regs.sprg 0)
+    ∷ []
+
+-- the words of the lines of the software-use registers and of the process table register
+unfoldable pub software_words : Regs → List (List (List ℕ))
+software_words regs =
+    named (codes "sprg0") 16 (slice_index regs.sprg 0)
     ∷ named (codes "sprg1") 16 (slice_index regs.sprg 1)
     ∷ named (codes "sprg2") 16 (slice_index regs.sprg 2)
     ∷ named (codes "sprg3") 16 (slice_index regs.sprg 3)
@@ -69,6 +79,10 @@ special_words regs devices =
     ∷ named (codes "hsprg1") 16 (slice_index regs.hsprg 1)
     ∷ named (codes "prtbl") 16 regs.prtbl
     ∷ []
+
+-- the words of the special registers' lines
+abbrev pub special_words : Regs → DeviceData → List (List (List ℕ))
+special_words regs devices = program_words regs ++ interrupt_words regs devices ++ software_words regs
 
 -- the words of the UART's line: no byte is sent yet
 abbrev pub uart_words : List (List ℕ)

@@ -11,3 +11,4 @@ mod words;
 
 pub use laws::texts_spell;
 pub use text::print;
+pub use words::hexadecimal;

@@ -1,9 +1,9 @@
-ghost use Rattle.std.specs.Prelude.{◌≡◌, ◌≤◌, ◌∷◌, ◌++◌, map, take, drop, OnOk};
+ghost use Rattle.std.specs.Prelude.{◌≡◌, ◌≤◌, ◌++◌, map, OnOk};
 ghost use Rattle.std.specs.List.{flat_map, enumerate_from};
 ghost use Rattle.mw_isa.specs.State.{seen};
-ghost use Rattle.mw_isa.specs.Text.{line, named, gpr_words, special_words, uart_words, state_words};
+ghost use Rattle.mw_isa.specs.Text.{line, named, gpr_words, program_words, interrupt_words, software_words, special_words, uart_words, state_words};
 
-use crate::words::{MOST_DIGITS, add_decimal, add_hex};
+use crate::words::{add_decimal, add_hex};
 use mw_bits::Bytes;
 use mw_isa::{Devices, Regs, State};
 use std::alloc::AllocError as NoMemory;
@@ -20,14 +20,14 @@ fn add_register(text: &mut Bytes, name: &[u8], digits: usize, content: u64) -> R
 }
 
 /// Appends the line of a register of 64 bits.
-fn add_double(text: &mut Bytes, name: &[u8], content: u64) -> Result<(), NoMemory>
+fn add_doubleword(text: &mut Bytes, name: &[u8], content: u64) -> Result<(), NoMemory>
     ensures { OnOk result (text.new ≡ text.old ++ line (named name.now 16 content)) }
 {
     add_register(text, name, 16, content)
 }
 
 /// Appends the line of a register of 32 bits.
-fn add_single(text: &mut Bytes, name: &[u8], content: u32) -> Result<(), NoMemory>
+fn add_word(text: &mut Bytes, name: &[u8], content: u32) -> Result<(), NoMemory>
     ensures { OnOk result (text.new ≡ text.old ++ line (named name.now 8 content)) }
 {
     add_register(text, name, 8, u64::from(content))
@@ -40,7 +40,7 @@ fn add_gpr(text: &mut Bytes, number: u64, content: u64) -> Result<(), NoMemory>
 {
     text.add(b"r")?;
     add_decimal(text, number)?;
-    add_hex(text, MOST_DIGITS, content)?;
+    add_hex(text, 16, content)?;
     text.add(b"\n")
 }
 
@@ -56,59 +56,55 @@ fn add_gprs(text: &mut Bytes, gpr: &[u64; 32]) -> Result<(), NoMemory>
 }
 
 /// Appends the lines of the special registers from `cr` to `msr`.
-#[tactic(auto, unfolding(mw_isa::specs::Text::special_words))]
-fn add_user(text: &mut Bytes, regs: &Regs, devices: &Devices) -> Result<(), NoMemory>
-    ensures { OnOk result
-        (text.new ≡ text.old ++ flat_map line (take 7 (special_words regs.now devices.now))) }
+#[tactic(auto, unfolding(mw_isa::specs::Text::program_words))]
+fn add_program(text: &mut Bytes, regs: &Regs) -> Result<(), NoMemory>
+    ensures { OnOk result (text.new ≡ text.old ++ flat_map line (program_words regs.now)) }
 {
-    add_single(text, b"cr", regs.cr)?;
-    add_double(text, b"xer", regs.xer)?;
-    add_double(text, b"lr", regs.lr)?;
-    add_double(text, b"ctr", regs.ctr)?;
-    add_double(text, b"tar", regs.tar)?;
-    add_double(text, b"cia", regs.cia)?;
-    add_double(text, b"msr", regs.msr)
+    add_word(text, b"cr", regs.cr)?;
+    add_doubleword(text, b"xer", regs.xer)?;
+    add_doubleword(text, b"lr", regs.lr)?;
+    add_doubleword(text, b"ctr", regs.ctr)?;
+    add_doubleword(text, b"tar", regs.tar)?;
+    add_doubleword(text, b"cia", regs.cia)?;
+    add_doubleword(text, b"msr", regs.msr)
 }
 
 /// Appends the lines of the special registers from `srr0` to `pidr`.
-#[tactic(auto, unfolding(mw_isa::specs::Text::special_words))]
+#[tactic(auto, unfolding(mw_isa::specs::Text::interrupt_words))]
 fn add_interrupt(text: &mut Bytes, regs: &Regs, devices: &Devices) -> Result<(), NoMemory>
-    ensures { OnOk result
-        (text.new ≡ text.old ++ flat_map line (take 8 (drop 7 (special_words regs.now devices.now)))) }
+    ensures { OnOk result (text.new ≡ text.old ++ flat_map line (interrupt_words regs.now devices.now)) }
 {
-    add_double(text, b"srr0", regs.srr0)?;
-    add_double(text, b"srr1", regs.srr1)?;
-    add_double(text, b"hsrr0", regs.hsrr0)?;
-    add_double(text, b"hsrr1", regs.hsrr1)?;
-    add_double(text, b"dar", regs.dar)?;
-    add_single(text, b"dsisr", regs.dsisr)?;
-    add_single(text, b"dec", devices.dec())?;
-    add_single(text, b"pidr", regs.pidr)
+    add_doubleword(text, b"srr0", regs.srr0)?;
+    add_doubleword(text, b"srr1", regs.srr1)?;
+    add_doubleword(text, b"hsrr0", regs.hsrr0)?;
+    add_doubleword(text, b"hsrr1", regs.hsrr1)?;
+    add_doubleword(text, b"dar", regs.dar)?;
+    add_word(text, b"dsisr", regs.dsisr)?;
+    add_word(text, b"dec", devices.dec())?;
+    add_word(text, b"pidr", regs.pidr)
 }
 
 /// Appends the lines of the special registers from `sprg0` to `prtbl`.
-#[tactic(auto, unfolding(mw_isa::specs::Text::special_words))]
-fn add_software(text: &mut Bytes, regs: &Regs, devices: &Devices) -> Result<(), NoMemory>
-    ensures { OnOk result
-        (text.new ≡ text.old ++ flat_map line (drop 15 (special_words regs.now devices.now))) }
+#[tactic(auto, unfolding(mw_isa::specs::Text::software_words))]
+fn add_software(text: &mut Bytes, regs: &Regs) -> Result<(), NoMemory>
+    ensures { OnOk result (text.new ≡ text.old ++ flat_map line (software_words regs.now)) }
 {
-    add_double(text, b"sprg0", regs.sprg[0])?;
-    add_double(text, b"sprg1", regs.sprg[1])?;
-    add_double(text, b"sprg2", regs.sprg[2])?;
-    add_double(text, b"sprg3", regs.sprg[3])?;
-    add_double(text, b"hsprg0", regs.hsprg[0])?;
-    add_double(text, b"hsprg1", regs.hsprg[1])?;
-    add_double(text, b"prtbl", regs.prtbl)
+    add_doubleword(text, b"sprg0", regs.sprg[0])?;
+    add_doubleword(text, b"sprg1", regs.sprg[1])?;
+    add_doubleword(text, b"sprg2", regs.sprg[2])?;
+    add_doubleword(text, b"sprg3", regs.sprg[3])?;
+    add_doubleword(text, b"hsprg0", regs.hsprg[0])?;
+    add_doubleword(text, b"hsprg1", regs.hsprg[1])?;
+    add_doubleword(text, b"prtbl", regs.prtbl)
 }
 
 /// Appends the lines of the special registers.
 fn add_specials(text: &mut Bytes, regs: &Regs, devices: &Devices) -> Result<(), NoMemory>
-    ensures { OnOk result
-        (text.new ≡ text.old ++ flat_map line (special_words regs.now devices.now)) }
+    ensures { OnOk result (text.new ≡ text.old ++ flat_map line (special_words regs.now devices.now)) }
 {
-    add_user(text, regs, devices)?;
+    add_program(text, regs)?;
     add_interrupt(text, regs, devices)?;
-    add_software(text, regs, devices)
+    add_software(text, regs)
 }
 
 /// Appends the line of the UART, which has sent nothing.

@@ -1,4 +1,4 @@
-ghost use Rattle.std.specs.Prelude.{◌≡◌, ◌-◌, ◌<◌, ◌≤◌, ◌∷◌, ◌++◌, length, decimal, OnOk};
+ghost use Rattle.std.specs.Prelude.{◌≡◌, ◌<◌, ◌≤◌, ◌∷◌, ◌++◌, length, decimal, OnOk};
 ghost use Rattle.mw_isa.specs.Text.{hex_digit, hex};
 
 use itoa::Buffer;
@@ -6,7 +6,7 @@ use mw_bits::Bytes;
 use std::alloc::AllocError as NoMemory;
 
 /// The most hexadecimal digits that a number of 64 bits has.
-pub const MOST_DIGITS: usize = 16;
+const MOST_DIGITS: usize = 16;
 
 /// The hexadecimal digit of a number below 16, in lower case.
 fn digit_of(value: u8) -> u8
@@ -29,6 +29,15 @@ fn write_hex(digits: &mut [u8], number: u64)
         digits[place] = digit_of((rest % 16) as u8);
         rest /= 16;
     }
+}
+
+/// The sixteen hexadecimal digits of a number of 64 bits, in lower case.
+pub fn hexadecimal(number: u64) -> [u8; MOST_DIGITS]
+    ensures { result ≡ hex 16 number }
+{
+    let mut digits = [0; MOST_DIGITS];
+    write_hex(&mut digits, number);
+    digits
 }
 
 /// Appends a blank and the number in so many hexadecimal digits.

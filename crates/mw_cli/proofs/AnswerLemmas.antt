@@ -1,0 +1,191 @@
+-- When each status comes, from what it says.
+use Rattle.std.proofs.Common.{◌≡◌, ℕ, ◌<◌, ◌≤◌, ◌⊎◌, ◌↔◌, inl, inr, List, length, Option, Some, None, IsSomeAnd, IsTrue, IfSome, refl, sym, ap, ◌∙◌, subst, arith}
+use Rattle.mw_io.specs.Outside.{Rose, content_of}
+use Rattle.mw_isa.specs.declared.event.End.{End}
+use Rattle.mw_isa.specs.State.{State}
+use Rattle.mw_isa.specs.Replay.{state_after}
+use Rattle.mw_isa.specs.Unbuilt.{first_unbuilt}
+use Rattle.mw_isa.specs.Reading.{events_of, end_of}
+use Rattle.mw_cli.specs.declared.status.Status.{Status}
+use Rattle.mw_cli.specs.declared.status.Status.TheVariants.{Done, Usage, ReadFault, WriteFault, ImageTooLarge, NoMemory, Unbuilt}
+use Rattle.mw_cli.specs.declared.refusal.Refusal.{Refusal}
+use Rattle.mw_cli.specs.declared.refusal.Refusal.TheVariants.{Unreadable, Unwritable, TooLarge, OutOfMemory, NotBuilt}
+use Rattle.mw_cli.specs.Command.{Order, order_of}
+use Rattle.mw_cli.specs.Headline.{Prints, SpellsRun}
+use Rattle.mw_cli.specs.Outside.{Reading, Writing, IsImage, TookUnlessFault}
+use Rattle.mw_cli.specs.Answers.{Call, Says, Answers, Asks, YieldsTo, Printed, HasCause, Refused, line_of, IsTooLong, StopsAt, ReachesUnbuilt}
+
+-- what some value has is what the one value has
+at_some : {A : Type 0} (o : Option A) (P : A → Type 0) (x : A) → o ≡ Some x → IsSomeAnd o P → P x
+at_some o P x e h = subst (λ (v : Option _). IsSomeAnd v P) e h
+
+-- there is some value, so there isn't none
+not_none : {A : Type 0} (o : Option A) (P : A → Type 0) → IsSomeAnd o P → o ≡ None → ⊥
+not_none o P h e = subst (λ (v : Option _). IsSomeAnd v P) e h
+
+-- what follows for each value follows for some
+some_gives : {A R : Type 0} (o : Option A) (P : A → Type 0) → IsSomeAnd o P → ((x : A) → P x → R) → R
+some_gives None P h f = absurd h
+some_gives (Some x) P h f = f x h
+
+-- and what each value has besides, some value has
+some_too : {A : Type 0} (o : Option A) (P Q : A → Type 0) → IsSomeAnd o P → ((x : A) → P x → Q x) → IsSomeAnd o Q
+some_too None P Q h f = h
+some_too (Some x) P Q h f = f x h
+
+-- the image of a text fits, and its run meets only what is built
+spelled : (image text : List ℕ) (n : ℕ) → SpellsRun image n text → (length image ≤ 16777216) × (first_unbuilt image n ≡ None)
+unfolding SpellsRun
+spelled image text n spells =
+    some_gives (end_of text) (λ (end : End). IsSomeAnd (state_after image (events_of text) n) (λ (last : State). Prints image n text end last)) spells (λ end h.
+    some_gives (state_after image (events_of text) n) (λ (last : State). Prints image n text end last) h (λ last p. (p.runs.fits, p.built)))
+
+-- the image is the file's content
+is_content : (host : Reading) (order : Order) (told : List ℕ → Option (List ℕ)) (image : List ℕ) → host.files ≡ Some told → IsImage host order image → image ≡ content_of told order.image
+is_content host order told image e is = subst (λ (o : Option (List ℕ → Option (List ℕ))). IfSome o (λ t. image ≡ content_of t order.image)) e is
+
+-- Usage, and no other status, where the words are no order
+usage-of : (call : Call) (status : Status) → Says call status → (status ≡ Usage) ↔ (order_of call.words ≡ None)
+usage-of call Done says = (λ e. cc, λ none. absurd (not_none _ _ says.0 none))
+usage-of call Usage says = (λ e. says.0, λ none. refl)
+usage-of call ReadFault says = (λ e. cc, λ none. absurd (not_none _ _ says none))
+usage-of call WriteFault says = (λ e. cc, λ none. absurd (not_none _ _ says none))
+usage-of call ImageTooLarge says = (λ e. cc, λ none. absurd (not_none _ _ says none))
+usage-of call NoMemory says = (λ e. cc, λ none. absurd (not_none _ _ says none))
+usage-of call Unbuilt says = (λ e. cc, λ none. absurd (not_none _ _ says.1 none))
+
+-- what a run printed, or a front of it, shows of the file's content
+shown : (call : Call) (order : Order) (told : List ℕ → Option (List ℕ)) (image text : List ℕ) → Asks call order told → IsImage call.host order image → SpellsRun image order.cycles text → (length (content_of told order.image) ≤ 16777216) × (first_unbuilt (content_of told order.image) order.cycles ≡ None)
+shown call order told image text asks is spells =
+    let same = is_content call.host order told image asks.1 is in
+    let facts = spelled image text order.cycles spells in
+    subst (λ (bytes : List ℕ). (length bytes ≤ 16777216) × (first_unbuilt bytes order.cycles ≡ None)) same facts
+
+-- a run that was printed
+printed-shows : (call : Call) (order : Order) (told : List ℕ → Option (List ℕ)) → Asks call order told → IsSomeAnd (order_of call.words) (Printed call.host call.out) → (length (content_of told order.image) ≤ 16777216) × (first_unbuilt (content_of told order.image) order.cycles ≡ None)
+printed-shows call order told asks h =
+    let p = at_some (order_of call.words) (Printed call.host call.out) order asks.0 h in
+    shown call order told p.0 p.1 asks p.2 p.3
+
+-- a run of which a front was printed
+front-shows : (call : Call) (order : Order) (told : List ℕ → Option (List ℕ)) → Asks call order told → Refused call Unwritable → (length (content_of told order.image) ≤ 16777216) × (first_unbuilt (content_of told order.image) order.cycles ≡ None)
+front-shows call order told asks h =
+    let p = at_some (order_of call.words) (λ (r : Order). HasCause call.host call.out r Unwritable × TookUnlessFault call.err (line_of r.image Unwritable)) order asks.0 h in
+    shown call order told p.0.1.0 p.0.1.1 asks p.0.1.3 p.0.1.4
+
+-- an image that is too long
+long-shows : (call : Call) (order : Order) (told : List ℕ → Option (List ℕ)) → Asks call order told → Refused call TooLarge → 16777216 < length (content_of told order.image)
+long-shows call order told asks h =
+    let p = at_some (order_of call.words) (λ (r : Order). HasCause call.host call.out r TooLarge × TookUnlessFault call.err (line_of r.image TooLarge)) order asks.0 h in
+    let same = is_content call.host order told p.0.0.0 asks.1 p.0.0.1 in
+    subst (λ (bytes : List ℕ). 16777216 < length bytes) same p.0.0.2
+
+-- an instruction that isn't built
+stop-shows : (call : Call) (order : Order) (told : List ℕ → Option (List ℕ)) (cia : ℕ) → Asks call order told → Refused call (NotBuilt cia) → (length (content_of told order.image) ≤ 16777216) × ReachesUnbuilt (content_of told order.image) order.cycles cia
+stop-shows call order told cia asks h =
+    let p = at_some (order_of call.words) (λ (r : Order). HasCause call.host call.out r (NotBuilt cia) × TookUnlessFault call.err (line_of r.image (NotBuilt cia))) order asks.0 h in
+    let same = is_content call.host order told p.0.0.0 asks.1 p.0.0.1 in
+    subst (λ (bytes : List ℕ). (length bytes ≤ 16777216) × ReachesUnbuilt bytes order.cycles cia) same (p.0.0.2, p.0.0.3)
+
+-- the reasons of a refusal, where the words are an order
+caused : (call : Call) (refusal : Refusal) (Q : Order → Type 0) → Refused call refusal → ((order : Order) → HasCause call.host call.out order refusal → Q order) → IsSomeAnd (order_of call.words) Q
+caused call refusal Q h f = some_too (order_of call.words) (λ (r : Order). HasCause call.host call.out r refusal × TookUnlessFault call.err (line_of r.image refusal)) Q h (λ order p. f order p.0)
+
+-- the reason of a refusal, whatever the order
+cause-gives : {R : Type 0} (call : Call) (refusal : Refusal) → Refused call refusal → ((order : Order) → HasCause call.host call.out order refusal → R) → R
+cause-gives call refusal h f = some_gives (order_of call.words) (λ (r : Order). HasCause call.host call.out r refusal × TookUnlessFault call.err (line_of r.image refusal)) h (λ order p. f order p.0)
+
+-- a run that meets what isn't built isn't one that meets none
+built_or_not : (image : List ℕ) (n cia : ℕ) → first_unbuilt image n ≡ None → ReachesUnbuilt image n cia → ⊥
+built_or_not image n cia none (cycle, some) = cc
+
+-- words that are an order aren't none
+some_or_none : (o : Option Order) (order : Order) → o ≡ Some order → o ≡ None → ⊥
+some_or_none o order some none = cc
+
+-- what each status says is what the program's main function answers
+pub answers : (call : Call) (status : Status) → Says call status → Answers call status
+answers call Done says = record {
+  says = says;
+  usage = usage-of call Done says;
+  read_fault = λ e. cc;
+  absent = λ e. absurd cc;
+  write_fault = λ e. absurd cc;
+  too_large = λ e. absurd cc;
+  always_too_large = λ order told asks long. absurd (let fits = (printed-shows call order told asks says.0).0 in omega arith);
+  unbuilt = λ e. absurd cc;
+  always_unbuilt = λ order told cia asks fits stop. absurd (built_or_not _ _ cia (printed-shows call order told asks says.0).1 stop);
+  complete = λ order told asks fits built host out. inl refl;
+}
+answers call Usage says = record {
+  says = says;
+  usage = usage-of call Usage says;
+  read_fault = λ e. absurd cc;
+  absent = λ e. absurd cc;
+  write_fault = λ e. absurd cc;
+  too_large = λ e. absurd cc;
+  always_too_large = λ order told asks long. absurd (some_or_none _ order asks.0 says.0);
+  unbuilt = λ e. absurd cc;
+  always_unbuilt = λ order told cia asks fits stop. absurd (some_or_none _ order asks.0 says.0);
+  complete = λ order told asks fits built host out. absurd (some_or_none _ order asks.0 says.0);
+}
+answers call ReadFault says = record {
+  says = says;
+  usage = usage-of call ReadFault says;
+  read_fault = λ e. cause-gives call Unreadable says (λ order c. c.0.0);
+  absent = λ e sound. caused call Unreadable (λ order. IsSomeAnd call.host.files (λ told. told order.image ≡ None)) says (λ order c. c.0.1 sound);
+  write_fault = λ e. absurd cc;
+  too_large = λ e. absurd cc;
+  always_too_large = λ order told asks long. inr (inl refl);
+  unbuilt = λ e. absurd cc;
+  always_unbuilt = λ order told cia asks fits stop. inr (inl refl);
+  complete = λ order told asks fits built host out. absurd (host (cause-gives call Unreadable says (λ order c. c.0.0)));
+}
+answers call WriteFault says = record {
+  says = says;
+  usage = usage-of call WriteFault says;
+  read_fault = λ e. absurd cc;
+  absent = λ e. absurd cc;
+  write_fault = λ e. cause-gives call Unwritable says (λ order c. c.0);
+  too_large = λ e. absurd cc;
+  always_too_large = λ order told asks long. absurd (let fits = (front-shows call order told asks says).0 in omega arith);
+  unbuilt = λ e. absurd cc;
+  always_unbuilt = λ order told cia asks fits stop. absurd (built_or_not _ _ cia (front-shows call order told asks says).1 stop);
+  complete = λ order told asks fits built host out. absurd (out (cause-gives call Unwritable says (λ order c. c.0)));
+}
+answers call ImageTooLarge says = record {
+  says = says;
+  usage = usage-of call ImageTooLarge says;
+  read_fault = λ e. absurd cc;
+  absent = λ e. absurd cc;
+  write_fault = λ e. absurd cc;
+  too_large = λ e. caused call TooLarge (IsTooLong call.host) says (λ order c. c.0);
+  always_too_large = λ order told asks long. inl refl;
+  unbuilt = λ e. absurd cc;
+  always_unbuilt = λ order told cia asks fits stop. absurd (let long = long-shows call order told asks says in omega arith);
+  complete = λ order told asks fits built host out. absurd (let long = long-shows call order told asks says in omega arith);
+}
+answers call NoMemory says = record {
+  says = says;
+  usage = usage-of call NoMemory says;
+  read_fault = λ e. absurd cc;
+  absent = λ e. absurd cc;
+  write_fault = λ e. absurd cc;
+  too_large = λ e. absurd cc;
+  always_too_large = λ order told asks long. inr (inr refl);
+  unbuilt = λ e. absurd cc;
+  always_unbuilt = λ order told cia asks fits stop. inr (inr refl);
+  complete = λ order told asks fits built host out. inr refl;
+}
+answers call Unbuilt says = record {
+  says = says;
+  usage = usage-of call Unbuilt says;
+  read_fault = λ e. absurd cc;
+  absent = λ e. absurd cc;
+  write_fault = λ e. absurd cc;
+  too_large = λ e. absurd cc;
+  always_too_large = λ order told asks long. absurd (let fits = (stop-shows call order told says.0 asks says.1).0 in omega arith);
+  unbuilt = λ e. caused call (NotBuilt says.0) (λ order. (cia : ℕ) × StopsAt call.host order cia) says.1 (λ order c. (says.0, c.0));
+  always_unbuilt = λ order told cia asks fits stop. inl refl;
+  complete = λ order told asks fits built host out. absurd (built_or_not _ _ says.0 built (stop-shows call order told says.0 asks says.1).1);
+}

@@ -1,0 +1,5 @@
+pub mod CommandLemmas
+pub mod WritingLemmas
+pub mod RunLemmas
+pub mod CauseLemmas
+pub mod AnswerLemmas

@@ -1,0 +1,107 @@
+-- What each status says of the call that it ends.
+use Rattle.std.specs.Prelude.{ℕ, ◌≡◌, ◌<◌, ◌≤◌, ◌⊎◌, ◌↔◌, Bool, true, List, [], ◌∷◌, ◌++◌, length, take, Option, Some, None, IsSomeAnd, IsTrue, codes}
+use Rattle.mw_io.specs.Outside.{Rose, content_of}
+use Rattle.mw_isa.specs.Unbuilt.{first_unbuilt}
+use Rattle.mw_isa.specs.Text.{hex}
+use Rattle.mw_cli.specs.declared.status.Status.{Status}
+use Rattle.mw_cli.specs.declared.status.Status.TheVariants.{Done, Usage, ReadFault, WriteFault, ImageTooLarge, NoMemory, Unbuilt}
+use Rattle.mw_cli.specs.declared.refusal.Refusal.{Refusal}
+use Rattle.mw_cli.specs.declared.refusal.Refusal.TheVariants.{Unreadable, Unwritable, TooLarge, OutOfMemory, NotBuilt}
+use Rattle.mw_cli.specs.Command.{Order, order_of}
+use Rattle.mw_cli.specs.Headline.{SpellsRun}
+use Rattle.mw_cli.specs.Outside.{Reading, Writing, IsImage, TookNothing, Took, TookUnlessFault}
+
+-- a call: its words, the host, out and err
+pub record Call : Type 0 where
+  pub words : List (List ℕ)
+  pub host : Reading
+  pub out : Writing
+  pub err : Writing
+
+-- out took the text of a run of the file's image
+abbrev pub Printed : Reading → Writing → Order → Type 0
+Printed host out order = (image : List ℕ) × (text : List ℕ) × IsImage host order image × SpellsRun image order.cycles text × Took out text
+
+-- out took a front of such a text
+abbrev pub PrintedFront : Reading → Writing → Order → Type 0
+PrintedFront host out order = (image : List ℕ) × (text : List ℕ) × (k : ℕ) × IsImage host order image × SpellsRun image order.cycles text × Took out (take k text)
+
+-- the host's count rose, and over a sound host the file isn't there
+abbrev pub IsUnread : Reading → Order → Type 0
+IsUnread host order = Rose host.faults_before host.faults_after × (IsTrue host.sound → IsSomeAnd host.files (λ told. told order.image ≡ None))
+
+-- the image is longer than RAM
+abbrev pub IsTooLong : Reading → Order → Type 0
+IsTooLong host order = (image : List ℕ) × IsImage host order image × (16777216 < length image)
+
+-- the first instruction that isn't built, of those that a run of the image reaches, is at this address
+abbrev pub ReachesUnbuilt : List ℕ → ℕ → ℕ → Type 0
+ReachesUnbuilt image n cia = (cycle : ℕ) × (first_unbuilt image n ≡ Some (cycle, cia))
+
+-- a run of the image, which fits RAM, reaches an instruction that isn't built, first the one at this address
+abbrev pub StopsAt : Reading → Order → ℕ → Type 0
+StopsAt host order cia = (image : List ℕ) × IsImage host order image × (length image ≤ 16777216) × ReachesUnbuilt image order.cycles cia
+
+-- why an order was refused, and what out took then; want of memory is free
+abbrev pub HasCause : Reading → Writing → Order → Refusal → Type 0
+HasCause host out order Unreadable = IsUnread host order × TookNothing out
+HasCause host out order TooLarge = IsTooLong host order × TookNothing out
+HasCause host out order (NotBuilt cia) = StopsAt host order cia × TookNothing out
+HasCause host out order Unwritable = Rose out.faults_before out.faults_after × PrintedFront host out order
+HasCause host out order OutOfMemory = TookNothing out ⊎ PrintedFront host out order
+
+-- the line on err for a refusal, with the image's name
+abbrev pub line_of : List ℕ → Refusal → List ℕ
+line_of name Unreadable = codes "mw: cannot read " ++ name ++ codes "\n"
+line_of name TooLarge = codes "mw: image exceeds 16777216 bytes\n"
+line_of name (NotBuilt cia) = codes "mw: unbuilt at " ++ hex 16 cia ++ codes "\n"
+line_of name Unwritable = codes "mw: cannot write\n"
+line_of name OutOfMemory = codes "mw: out of memory\n"
+
+-- the words are an order that was refused so, and err was told
+abbrev pub Refused : Call → Refusal → Type 0
+Refused call refusal = IsSomeAnd (order_of call.words) (λ order. HasCause call.host call.out order refusal × TookUnlessFault call.err (line_of order.image refusal))
+
+-- what a status says
+abbrev pub Says : Call → Status → Type 0
+-- the words are an order, out took the text of its run, and err nothing
+Says call Done = IsSomeAnd (order_of call.words) (λ order. Printed call.host call.out order) × TookNothing call.err
+-- the words are no order, out took nothing, and err was told
+Says call Usage = (order_of call.words ≡ None) × TookNothing call.out × TookUnlessFault call.err (codes "mw: usage\n")
+Says call ReadFault = Refused call Unreadable
+Says call ImageTooLarge = Refused call TooLarge
+Says call Unbuilt = (cia : ℕ) × Refused call (NotBuilt cia)
+Says call WriteFault = Refused call Unwritable
+Says call NoMemory = Refused call OutOfMemory
+
+-- the words are this order, and these are the host's files
+abbrev pub Asks : Call → Order → (List ℕ → Option (List ℕ)) → Type 0
+Asks call order told = (order_of call.words ≡ Some order) × (call.host.files ≡ Some told)
+
+-- a refusal that comes before what the image says, or want of memory
+abbrev pub YieldsTo : Status → Type 0
+YieldsTo status = (status ≡ ReadFault) ⊎ (status ≡ NoMemory)
+
+-- what the program's main function answers, of its call and its status
+pub record Answers (call : Call) (status : Status) : Type 0 where
+  -- each status says why it comes, and what out and err took
+  pub says : Says call status
+  -- Usage comes exactly where the words are no order
+  pub usage : (status ≡ Usage) ↔ (order_of call.words ≡ None)
+  -- ReadFault comes only where the host's count rose in this call
+  pub read_fault : status ≡ ReadFault → Rose call.host.faults_before call.host.faults_after
+  -- and over a sound host only where the file that the words name isn't there
+  pub absent : status ≡ ReadFault → IsTrue call.host.sound → IsSomeAnd (order_of call.words) (λ order. IsSomeAnd call.host.files (λ told. told order.image ≡ None))
+  -- WriteFault comes only where out's count of faults rose in this call
+  pub write_fault : status ≡ WriteFault → Rose call.out.faults_before call.out.faults_after
+  -- ImageTooLarge comes only where the image is longer than RAM
+  pub too_large : status ≡ ImageTooLarge → IsSomeAnd (order_of call.words) (λ order. IsTooLong call.host order)
+  -- and always there, but for a file that isn't read and for want of memory
+  pub always_too_large : (order : Order) (told : List ℕ → Option (List ℕ)) → Asks call order told → 16777216 < length (content_of told order.image) → (status ≡ ImageTooLarge) ⊎ YieldsTo status
+  -- Unbuilt comes only where the run reaches an instruction that isn't built
+  pub unbuilt : status ≡ Unbuilt → IsSomeAnd (order_of call.words) (λ order. (cia : ℕ) × StopsAt call.host order cia)
+  -- and always there, but for a file that isn't read and for want of memory
+  pub always_unbuilt : (order : Order) (told : List ℕ → Option (List ℕ)) (cia : ℕ) → Asks call order told → length (content_of told order.image) ≤ 16777216 → ReachesUnbuilt (content_of told order.image) order.cycles cia → (status ≡ Unbuilt) ⊎ YieldsTo status
+  -- An order of an image that fits, whose run meets no instruction that isn't built, over a host and an out whose
+  -- counts don't rise, is done, or memory is wanting
+  pub complete : (order : Order) (told : List ℕ → Option (List ℕ)) → Asks call order told → length (content_of told order.image) ≤ 16777216 → first_unbuilt (content_of told order.image) order.cycles ≡ None → ¬ (Rose call.host.faults_before call.host.faults_after) → ¬ (Rose call.out.faults_before call.out.faults_after) → (status ≡ Done) ⊎ (status ≡ NoMemory)

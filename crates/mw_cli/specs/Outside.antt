@@ -1,0 +1,48 @@
+-- What a call of the program's main function was given, and what the outside shows before it and after it.
+use Rattle.std.specs.Prelude.{ℕ, ◌≡◌, ◌<◌, ◌≤◌, ◌⊎◌, Bool, List, length, take, Option, IfSome}
+use Rattle.mw_io.specs.Outside.{Rose, content_of, with_more}
+use Rattle.mw_cli.specs.Command.{Order}
+
+-- a host: its files where it tells them, whether it is sound, and its count of faults before and after
+pub record Reading : Type 0 where
+  pub files : Option (List ℕ → Option (List ℕ))
+  pub sound : Bool
+  pub faults_before : ℕ
+  pub faults_after : ℕ
+
+-- a sink: the bytes that it took where it tells them, and its counts of faults and of wants, before and after
+pub record Writing : Type 0 where
+  pub taken_before : Option (List ℕ)
+  pub taken_after : Option (List ℕ)
+  pub faults_before : ℕ
+  pub faults_after : ℕ
+  pub wants_before : ℕ
+  pub wants_after : ℕ
+
+-- the image is the file's content, where the files are told
+abbrev pub IsImage : Reading → Order → List ℕ → Type 0
+IsImage host order image = IfSome host.files (λ told. image ≡ content_of told order.image)
+
+-- the sink took nothing
+abbrev pub TookNothing : Writing → Type 0
+TookNothing sink = sink.taken_after ≡ sink.taken_before
+
+-- the sink took these bytes
+abbrev pub Took : Writing → List ℕ → Type 0
+Took sink bytes = sink.taken_after ≡ with_more sink.taken_before bytes
+
+-- one of the sink's counts rose, and it took a front of these bytes
+abbrev pub Stopped : Writing → List ℕ → Type 0
+Stopped sink bytes = (k : ℕ) × (k ≤ length bytes) × Took sink (take k bytes) × (Rose sink.faults_before sink.faults_after ⊎ Rose sink.wants_before sink.wants_after)
+
+-- the sink took these bytes, or a front of them where one of its counts rose
+abbrev pub TookUnlessFault : Writing → List ℕ → Type 0
+TookUnlessFault sink bytes = Took sink bytes ⊎ Stopped sink bytes
+
+-- a sink from what it shows before and after
+abbrev pub writing : Option (List ℕ) → Option (List ℕ) → ℕ → ℕ → ℕ → ℕ → Writing
+writing before after faults more wants others = record { taken_before = before; taken_after = after; faults_before = faults; faults_after = more; wants_before = wants; wants_after = others }
+
+-- a host from what it tells, and its count before and after
+abbrev pub reading : Option (List ℕ → Option (List ℕ)) → Bool → ℕ → ℕ → Reading
+reading files sound before after = record { files = files; sound = sound; faults_before = before; faults_after = after }

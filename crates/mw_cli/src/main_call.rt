@@ -1,0 +1,77 @@
+ghost use Rattle.std.specs.Prelude.{◌≡◌, ◌≤◌, map, string_bytes, IsTrue};
+ghost use Rattle.mw_cli.specs.Outside.{reading, writing};
+ghost use Rattle.mw_cli.specs.Answers.{Says, Answers};
+ghost use Rattle.mw_cli.specs.Numbers.{status_of};
+
+use crate::command::read_words;
+use crate::refusal::Refusal;
+use crate::report::{report, report_usage};
+use crate::run::run;
+use crate::status::Status;
+use mw_io::{Host, Sink};
+use std::alloc::Global;
+
+/// The status of a refusal.
+fn status_for(refusal: Refusal) -> Status
+    ensures { result ≡ status_of refusal }
+{
+    match refusal {
+        Refusal::Unreadable => Status::ReadFault,
+        Refusal::TooLarge => Status::ImageTooLarge,
+        Refusal::NotBuilt { .. } => Status::Unbuilt,
+        Refusal::Unwritable => Status::WriteFault,
+        Refusal::OutOfMemory => Status::NoMemory,
+    }
+}
+
+/// Does what the words ask for.
+fn obey<H: Host, O: Sink, E: Sink>(
+    alloc: Global,
+    words: &[String],
+    host: &mut H,
+    out: &mut O,
+    err: &mut E,
+) -> Status
+    ensures says { Says (record {
+      words = map string_bytes words.now;
+      host = reading (H.files host.old) (H.is_sound host.old) (H.faults host.old) (H.faults host.new);
+      out = writing (O.taken out.old) (O.taken out.new) (O.faults out.old) (O.faults out.new) (O.wants out.old) (O.wants out.new);
+      err = writing (E.taken err.old) (E.taken err.new) (E.faults err.old) (E.faults err.new) (E.wants err.old) (E.wants err.new);
+    }) result }
+    ensures same_files { H.files host.new ≡ H.files host.old }
+    ensures stays_sound { IsTrue (H.is_sound host.old) → IsTrue (H.is_sound host.new) }
+{
+    let Some(command) = read_words(words) else {
+        report_usage(err);
+        return Status::Usage;
+    };
+    match run(alloc, &command, host, out) {
+        Ok(()) => Status::Done,
+        Err(refusal) => {
+            report(err, command.image, refusal);
+            status_for(refusal)
+        }
+    }
+}
+
+/// Does what the words behind the program's name ask for. `run IMAGE --cycles N` reads the image from the
+/// host, runs it from address 0 for N cycles, at most 4,000,000, and writes the text of the run to out.
+/// Any other status than Done leaves its line on err. A failed write to err changes no status.
+pub fn mw_main<H: Host, O: Sink, E: Sink>(
+    alloc: Global,
+    words: &[String],
+    host: &mut H,
+    out: &mut O,
+    err: &mut E,
+) -> Status
+    ensures answers { Answers (record {
+      words = map string_bytes words.now;
+      host = reading (H.files host.old) (H.is_sound host.old) (H.faults host.old) (H.faults host.new);
+      out = writing (O.taken out.old) (O.taken out.new) (O.faults out.old) (O.faults out.new) (O.wants out.old) (O.wants out.new);
+      err = writing (E.taken err.old) (E.taken err.new) (E.faults err.old) (E.faults err.new) (E.wants err.old) (E.wants err.new);
+    }) result }
+    ensures same_files { H.files host.new ≡ H.files host.old }
+    ensures stays_sound { IsTrue (H.is_sound host.old) → IsTrue (H.is_sound host.new) }
+{
+    obey(alloc, words, host, out, err)
+}

@@ -1,0 +1,78 @@
+ghost use Rattle.std.specs.Prelude.{◌≡◌, ◌≤◌, ◌++◌, MatchBool, codes};
+ghost use Rattle.mw_cli.specs.Outside.{writing, Took, Stopped, TookUnlessFault};
+ghost use Rattle.mw_cli.specs.Answers.{line_of};
+
+use crate::refusal::Refusal;
+use mw_io::{Sink, write_all};
+use mw_trace::hexadecimal;
+
+/// Writes a piece, and says whether the sink took it whole.
+fn write_piece<S: Sink>(sink: &mut S, piece: &[u8]) -> bool
+    ensures cases { let w = writing (S.taken sink.old) (S.taken sink.new) (S.faults sink.old) (S.faults sink.new) (S.wants sink.old) (S.wants sink.new) in
+        MatchBool result (Took w piece.now) (Stopped w piece.now) }
+    ensures faults { S.faults sink.old ≤ S.faults sink.new }
+    ensures wants { S.wants sink.old ≤ S.wants sink.new }
+{
+    match write_all(sink, piece) {
+        Ok(()) => true,
+        Err(_) => false,
+    }
+}
+
+/// Writes two pieces, and says whether the sink took them whole.
+fn write_both<S: Sink>(sink: &mut S, first: &[u8], second: &[u8]) -> bool
+    ensures cases { let w = writing (S.taken sink.old) (S.taken sink.new) (S.faults sink.old) (S.faults sink.new) (S.wants sink.old) (S.wants sink.new) in
+        MatchBool result (Took w (first.now ++ second.now)) (Stopped w (first.now ++ second.now)) }
+    ensures faults { S.faults sink.old ≤ S.faults sink.new }
+    ensures wants { S.wants sink.old ≤ S.wants sink.new }
+{
+    if write_piece(sink, first) {
+        write_piece(sink, second)
+    } else {
+        false
+    }
+}
+
+/// Writes three pieces, as far as the sink takes them.
+fn write_three<S: Sink>(sink: &mut S, first: &[u8], second: &[u8], third: &[u8])
+    ensures took { TookUnlessFault (writing (S.taken sink.old) (S.taken sink.new) (S.faults sink.old) (S.faults sink.new) (S.wants sink.old) (S.wants sink.new)) (first.now ++ second.now ++ third.now) }
+    ensures faults { S.faults sink.old ≤ S.faults sink.new }
+    ensures wants { S.wants sink.old ≤ S.wants sink.new }
+{
+    if write_both(sink, first, second) {
+        write_piece(sink, third);
+    }
+}
+
+/// Writes one piece, as far as the sink takes it.
+fn write_one<S: Sink>(sink: &mut S, piece: &[u8])
+    ensures took { TookUnlessFault (writing (S.taken sink.old) (S.taken sink.new) (S.faults sink.old) (S.faults sink.new) (S.wants sink.old) (S.wants sink.new)) piece.now }
+    ensures faults { S.faults sink.old ≤ S.faults sink.new }
+    ensures wants { S.wants sink.old ≤ S.wants sink.new }
+{
+    write_piece(sink, piece);
+}
+
+/// Tells err that the words are no order.
+pub fn report_usage<S: Sink>(err: &mut S)
+    ensures took { TookUnlessFault (writing (S.taken err.old) (S.taken err.new) (S.faults err.old) (S.faults err.new) (S.wants err.old) (S.wants err.new)) (codes "mw: usage\n") }
+    ensures faults { S.faults err.old ≤ S.faults err.new }
+    ensures wants { S.wants err.old ≤ S.wants err.new }
+{
+    write_one(err, b"mw: usage\n");
+}
+
+/// Tells err why an order was refused.
+pub fn report<S: Sink>(err: &mut S, image: &str, refusal: Refusal)
+    ensures took { TookUnlessFault (writing (S.taken err.old) (S.taken err.new) (S.faults err.old) (S.faults err.new) (S.wants err.old) (S.wants err.new)) (line_of image.now refusal) }
+    ensures faults { S.faults err.old ≤ S.faults err.new }
+    ensures wants { S.wants err.old ≤ S.wants err.new }
+{
+    match refusal {
+        Refusal::Unreadable => write_three(err, b"mw: cannot read ", image.as_bytes(), b"\n"),
+        Refusal::TooLarge => write_one(err, b"mw: image exceeds 16777216 bytes\n"),
+        Refusal::NotBuilt { cia } => write_three(err, b"mw: unbuilt at ", &hexadecimal(cia), b"\n"),
+        Refusal::Unwritable => write_one(err, b"mw: cannot write\n"),
+        Refusal::OutOfMemory => write_one(err, b"mw: out of memory\n"),
+    }
+}

@@ -1,0 +1,103 @@
+ghost use Rattle.std.specs.Prelude.{◌≡◌, ◌≤◌, length, vec_len, OnOk, IfOk, IfErr, IsTrue};
+ghost use Rattle.mw_cli.specs.Command.{order_in};
+ghost use Rattle.mw_cli.specs.Headline.{SpellsRun};
+ghost use Rattle.mw_cli.specs.Outside.{reading, writing, IsImage, Took};
+ghost use Rattle.mw_cli.specs.Answers.{Printed, HasCause};
+ghost use Rattle.mw_cli.specs.Stages.{IsLoadRefusal, IsRunRefusal, IsWriteRefusal};
+
+use crate::command::Command;
+use crate::refusal::Refusal;
+use mw_bits::Bytes;
+use mw_board::{RunFault, simulate};
+use mw_io::{Host, ReadFault, Sink, SinkFault, read_up_to, write_all};
+use mw_trace::print;
+use std::alloc::Global;
+
+/// The most bytes that an image may have.
+const MOST_BYTES: usize = 16777216;
+
+/// Reads the image of a command.
+fn load<H: Host>(alloc: Global, command: &Command<'_>, host: &mut H) -> Result<Vec<u8>, Refusal>
+    ensures image { IfOk result (λ bytes. IsImage (reading (H.files host.old) (H.is_sound host.old) (H.faults host.old) (H.faults host.new)) (order_in command.now) bytes.items) }
+    ensures fits { IfOk result (λ bytes. length bytes.items ≤ 16777216) }
+    ensures refused { IfErr result (IsLoadRefusal (reading (H.files host.old) (H.is_sound host.old) (H.faults host.old) (H.faults host.new)) (order_in command.now)) }
+    ensures same_files { H.files host.new ≡ H.files host.old }
+    ensures later { H.faults host.old ≤ H.faults host.new }
+    ensures stays_sound { IsTrue (H.is_sound host.old) → IsTrue (H.is_sound host.new) }
+{
+    let Ok(()) = host.open(command.image) else {
+        return Err(Refusal::Unreadable);
+    };
+    let bytes = match read_up_to(alloc, host, MOST_BYTES) {
+        Ok(bytes) => bytes,
+        Err(ReadFault::Failed) => return Err(Refusal::Unreadable),
+        Err(ReadFault::NoMemory) => return Err(Refusal::OutOfMemory),
+    };
+    if bytes.len() > MOST_BYTES {
+        return Err(Refusal::TooLarge);
+    }
+    Ok(bytes)
+}
+
+/// The text of a run of an image.
+fn text_of_run(alloc: Global, image: &[u8], cycles: u64) -> Result<Bytes, Refusal>
+    requires fits { length image.now ≤ 16777216 }
+    requires few { cycles ≤ 4000000 }
+    ensures text { IfOk result (SpellsRun image.now cycles) }
+    ensures refused { IfErr result (IsRunRefusal image.now cycles) }
+{
+    let run = match simulate(alloc, image, cycles) {
+        Ok(run) => run,
+        Err(RunFault::ImageTooLarge) => return Err(Refusal::TooLarge),
+        Err(RunFault::NoMemory) => return Err(Refusal::OutOfMemory),
+        Err(RunFault::Unbuilt { cia, .. }) => return Err(Refusal::NotBuilt { cia }),
+    };
+    match print(alloc, run.events.as_slice(), &run.end, &run.state, None) {
+        Ok(text) => Ok(text),
+        Err(_) => Err(Refusal::OutOfMemory),
+    }
+}
+
+/// Writes a text.
+fn write_text<S: Sink>(out: &mut S, text: &[u8]) -> Result<(), Refusal>
+    ensures took { OnOk result (Took (writing (S.taken out.old) (S.taken out.new) (S.faults out.old) (S.faults out.new) (S.wants out.old) (S.wants out.new)) text.now) }
+    ensures refused { IfErr result (IsWriteRefusal (writing (S.taken out.old) (S.taken out.new) (S.faults out.old) (S.faults out.new) (S.wants out.old) (S.wants out.new)) text.now) }
+    ensures faults { S.faults out.old ≤ S.faults out.new }
+    ensures wants { S.wants out.old ≤ S.wants out.new }
+{
+    match write_all(out, text) {
+        Ok(()) => Ok(()),
+        Err(SinkFault::Failed) => Err(Refusal::Unwritable),
+        Err(SinkFault::NoMemory) => Err(Refusal::OutOfMemory),
+    }
+}
+
+/// Runs the image of a command and writes the text of the run.
+pub fn run<H: Host, S: Sink>(
+    alloc: Global,
+    command: &Command<'_>,
+    host: &mut H,
+    out: &mut S,
+) -> Result<(), Refusal>
+    requires few { command.now.cycles ≤ 4000000 }
+    ensures printed { OnOk result (Printed (reading (H.files host.old) (H.is_sound host.old) (H.faults host.old) (H.faults host.new)) (writing (S.taken out.old) (S.taken out.new) (S.faults out.old) (S.faults out.new) (S.wants out.old) (S.wants out.new)) (order_in command.now)) }
+    ensures refused { IfErr result (HasCause (reading (H.files host.old) (H.is_sound host.old) (H.faults host.old) (H.faults host.new)) (writing (S.taken out.old) (S.taken out.new) (S.faults out.old) (S.faults out.new) (S.wants out.old) (S.wants out.new)) (order_in command.now)) }
+    ensures same_files { H.files host.new ≡ H.files host.old }
+    ensures later { H.faults host.old ≤ H.faults host.new }
+    ensures stays_sound { IsTrue (H.is_sound host.old) → IsTrue (H.is_sound host.new) }
+    ensures faults { S.faults out.old ≤ S.faults out.new }
+    ensures wants { S.wants out.old ≤ S.wants out.new }
+{
+    let image = match load(alloc, command, host) {
+        Ok(image) => image,
+        Err(refusal) => return Err(refusal),
+    };
+    let text = match text_of_run(alloc, image.as_slice(), command.cycles) {
+        Ok(text) => text,
+        Err(refusal) => return Err(refusal),
+    };
+    match write_text(out, text.as_slice()) {
+        Ok(()) => Ok(()),
+        Err(refusal) => Err(refusal),
+    }
+}
