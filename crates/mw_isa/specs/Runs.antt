@@ -1,11 +1,14 @@
--- The headline, of a run's own image, number of cycles, events, end and last state:
+-- The headline:
 --
--- Want of memory and faults of the outside apart, every image that fits RAM runs for every number of cycles up to
--- 4,000,000; its events, registers and memory are those of the sequential Power machine at the printed cycles; and
--- no 8,192 successive cycles are without an event.
+-- Want of memory and faults of the outside apart, every image that fits RAM runs under every script, wait pattern and
+-- number of cycles up to 4,000,000; its events, registers, memory and UART bytes are those of the sequential Power
+-- machine at the printed cycles; nothing retires while an enabled interrupt is pending; no 8,192 successive cycles are
+-- without an event; a run that breaks the update discipline stops at its first offending access, and all this holds
+-- until there.
 --
--- Scripts, waits, devices beside the decrementer, interrupts and the update discipline aren't built yet, and a run
--- that reaches an instruction that isn't built is refused.
+-- Below is what of it is built: image, number of cycles, events, registers, memory, and the 8,192 cycles. Scripts,
+-- waits, UART bytes, interrupts and the update discipline aren't built yet, and a run that reaches an instruction that
+-- isn't built is refused.
 use Rattle.std.specs.Prelude.{ℕ, ◌≡◌, ◌≤◌, ◌<◌, List, length, Some, All}
 use Rattle.std.specs.List.Sorted.{IsStrictlyIncreasing}
 use Rattle.mw_isa.specs.declared.event.Event.{Event}
