@@ -28,6 +28,12 @@ impl Model for Devices {
 }
 
 impl Clone for Devices {
+    ghost use Rattle.std.specs.Prelude.{◌≡◌, ⊤};
+
+    ghost is_clone = { λ devices copy. copy ≡ devices };
+
+    ghost is_infallible = { λ _. ⊤ };
+
     fn clone(&self) -> Result<Devices, std::alloc::AllocError> {
         Ok(*self)
     }

@@ -8,6 +8,11 @@ pub enum Slot {
 }
 
 impl Default for Slot {
+    ghost use Rattle.std.specs.Prelude.{◌≡◌};
+    ghost use Rattle.mw_isa.specs.declared.outcome.Slot.TheVariants.{Gpr};
+
+    ghost is_default = { λ slot. slot ≡ Gpr 0 };
+
     fn default() -> Slot {
         Slot::Gpr(0)
     }
