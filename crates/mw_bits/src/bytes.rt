@@ -16,7 +16,7 @@ impl Model for Bytes {
 }
 
 impl Bytes {
-    /// No byte.
+    /// A list with no byte. It takes no memory.
     pub fn new(alloc: Global) -> Bytes
         ensures { result ≡ [] }
     {
@@ -25,7 +25,7 @@ impl Bytes {
         }
     }
 
-    /// Appends the piece. Without memory the list stays as it was.
+    /// Appends the bytes of `piece` in order. Where memory is wanting the list stays as it was.
     pub fn add(&mut self, piece: &[u8]) -> Result<(), NoMemory>
         ensures ok { OnOk result (self.new ≡ self.old ++ piece.now) }
         ensures err { OnErr result (self.new ≡ self.old) }
@@ -33,7 +33,7 @@ impl Bytes {
         self.items.extend_from_slice(piece)
     }
 
-    /// The bytes in order.
+    /// The bytes, from the first one on.
     pub fn as_slice(&self) -> &[u8]
         ensures { result.now ≡ self.now }
     {

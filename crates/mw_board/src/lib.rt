@@ -7,3 +7,6 @@ mod simulation;
 
 pub use run::{Run, RunFault};
 pub use simulation::simulate;
+
+#[cfg(test)]
+mod tests;

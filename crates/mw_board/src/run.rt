@@ -3,7 +3,7 @@ use mw_isa::{End, Events, State};
 /// A run: what happened, how it ended, and the last state.
 #[derive(Drop)]
 pub struct Run {
-    /// What happened, in order.
+    /// What happened, in order: one event for each cycle.
     pub events: Events,
     /// How it ended.
     pub end: End,
@@ -11,18 +11,18 @@ pub struct Run {
     pub state: State,
 }
 
-/// Why there is no run.
+/// Why there is no run. Of an image that doesn't fit RAM nothing else is said.
 #[derive(Clone, Copy, Debug, PartialEq, Eq)]
 pub enum RunFault {
-    /// The image is longer than RAM.
+    /// The image is longer than RAM, which has 16,777,216 bytes.
     ImageTooLarge,
     /// Memory is wanting.
     NoMemory,
-    /// An instruction that isn't built was reached.
+    /// An instruction that isn't built was reached: a word of no row, or a form with OE, Rc or LK.
     Unbuilt {
-        /// The cycle at which it is the next one.
+        /// The cycle at which it is the next one, counted from 0.
         cycle: u64,
-        /// Its address.
+        /// Its effective address.
         cia: u64,
     },
 }

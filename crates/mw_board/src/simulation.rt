@@ -12,7 +12,9 @@ use mw_bus::{RAM_SIZE, Ram};
 use mw_isa::{Devices, End, Events, Regs, State};
 use std::alloc::Global;
 
-/// Runs an image for `n` cycles, an instruction a cycle.
+/// Runs an image for `n` cycles, an instruction a cycle, from the machine's start with the image at real
+/// address 0. `Err` says why there is no run: the image doesn't fit RAM, an instruction that isn't built
+/// is reached below cycle `n`, or memory is wanting.
 pub fn simulate(alloc: Global, image: &[u8], n: u64) -> Result<Run, RunFault>
     requires { n ≤ 4000000 }
     ensures runs { IfOk result (λ run. Runs image.now n run.events run.end (seen run.state)) }

@@ -6,7 +6,7 @@ use crate::operand::{operand, plain, unless_zero};
 use mw_decode::Insn;
 use mw_isa::{AdderRow, Operands, Outcome};
 
-/// The rows that add.
+/// What the rows that add come to (Book I, fixed-point arithmetic instructions). Sums wrap at 2^64.
 pub fn add(row: AdderRow, insn: &Insn, operands: &Operands, cia: u64) -> Outcome
     requires { WritesFirst insn.now }
     ensures { result ≡ adder_of row insn.now operands.now cia }

@@ -5,7 +5,8 @@ use crate::operand::{branch_without_link, operand};
 use mw_decode::Insn;
 use mw_isa::{BranchRow, Operands, Outcome};
 
-/// The target of a branch: from 0 where AA is 1, and from the branch where it is 0.
+/// The address that a branch goes to: its displacement in bytes, from 0 where AA is 1, and from the
+/// branch where it is 0. Sums wrap at 2^64.
 fn target(insn: &Insn, cia: u64) -> u64
     requires { length insn.now.ops.items ≡ 1 }
     ensures { result ≡ target_of insn.now cia }
@@ -17,7 +18,7 @@ fn target(insn: &Insn, cia: u64) -> u64
     }
 }
 
-/// The rows that branch.
+/// What the rows that branch come to (Book I, branch instructions). LK isn't looked at.
 pub fn branch(row: BranchRow, insn: &Insn, operands: &Operands, cia: u64) -> Outcome
     requires { length insn.now.ops.items ≡ 1 }
     ensures { result ≡ branch_of row insn.now operands.now cia }

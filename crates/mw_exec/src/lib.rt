@@ -8,3 +8,86 @@ mod operand;
 mod unit;
 
 pub use unit::exec;
+
+#[cfg(test)]
+mod tests {
+    use super::*;
+    use mw_decode::{Decoded, decode, is_prefix};
+    use mw_isa::{Operands, Outcome, Slot, Target};
+
+    /// What a word at an address comes to where this is read as the first and the second register.
+    fn outcome(word: u32, [a, b]: [u64; 2], cia: u64) -> Option<Outcome> {
+        if is_prefix(word) {
+            return None;
+        }
+        let operands = Operands {
+            a,
+            b,
+            c: 0,
+            cr: 0,
+            xer: 0,
+            lr: 0,
+            ctr: 0,
+            tar: 0,
+            msr: 0,
+        };
+        match decode(word, None) {
+            Decoded::Insn(insn) => Some(exec(&insn, &operands, cia)),
+            Decoded::Illegal => None,
+        }
+    }
+
+    /// A word, what is read, its address; the register that it writes, with its value; the next address.
+    struct Written(u32, [u64; 2], u64, u8, u64, u64);
+
+    #[rattlefmt::skip]
+    static WRITTEN: [Written; 9] = [
+        Written(0x3860_0005, [7, 0], 0, 3, 5, 4), // addi r3,0,5 while r0 is 7
+        Written(0x3864_ffff, [7, 0], 8, 3, 6, 12), // addi r3,r4,-1
+        Written(0x3864_ffff, [0, 0], 8, 3, 0xffff_ffff_ffff_ffff, 12), // addi r3,r4,-1
+        Written(0x3c60_8000, [7, 0], 0, 3, 0xffff_ffff_8000_0000, 4), // addis r3,0,-32768
+        Written(0x3c64_0001, [5, 0], 0, 3, 0x1_0005, 4), // addis r3,r4,1
+        Written(0x6083_ffff, [0x8000_0000_0000_00f0, 0], 0, 3, 0x8000_0000_0000_ffff, 4), // ori r3,r4,65535
+        Written(0x7ca3_2214, [0xffff_ffff_ffff_ffff, 2], 0, 5, 1, 4), // add r5,r3,r4
+        Written(0x7ca0_2214, [9, 2], 0, 5, 11, 4), // add r5,r0,r4
+        Written(0x6000_0000, [7, 0], 0xffff_ffff_ffff_fffc, 0, 7, 0), // ori r0,r0,0 at the last word
+    ];
+
+    /// The word of a branch, its address, and the next one.
+    struct Taken(u32, u64, u64);
+
+    #[rattlefmt::skip]
+    static TAKEN: [Taken; 5] = [
+        Taken(0x4bff_fffc, 0, 0xffff_ffff_ffff_fffc), // b -4
+        Taken(0x4800_0008, 0x100, 0x108), // b 8
+        Taken(0x49ff_fffc, 4, 0x200_0000), // b 33554428
+        Taken(0x4bff_fffe, 0x100, 0xffff_ffff_ffff_fffc), // ba -4
+        Taken(0x4800_000a, 0x100, 8), // ba 8
+    ];
+
+    #[test]
+    fn instructions_come_to_what_they_should(rt: HostRuntime) {
+        for Written(word, read, cia, number, value, next_wanted) in &WRITTEN {
+            let target = Target {
+                slot: Slot::Gpr(*number),
+                value: Some(*value),
+            };
+            match outcome(*word, *read, *cia) {
+                Some(Outcome::Done { targets, next }) => {
+                    assert_eq!(rt; targets.as_slice(), [target].as_slice(), "{word:x}");
+                    assert_eq!(rt; next, *next_wanted, "{word:x}");
+                }
+                None => panic!(rt; "{word:x} is no instruction"),
+            }
+        }
+        for Taken(word, cia, next_wanted) in &TAKEN {
+            match outcome(*word, [7, 7], *cia) {
+                Some(Outcome::Done { targets, next }) => {
+                    assert_eq!(rt; targets.len(), 0, "{word:x}");
+                    assert_eq!(rt; next, *next_wanted, "{word:x}");
+                }
+                None => panic!(rt; "{word:x} is no instruction"),
+            }
+        }
+    }
+}

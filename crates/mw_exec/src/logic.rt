@@ -6,7 +6,7 @@ use crate::operand::{operand, plain};
 use mw_decode::Insn;
 use mw_isa::{LogicRow, Operands, Outcome};
 
-/// The rows that work on single bits.
+/// What the rows that work on single bits come to (Book I, fixed-point logical instructions).
 pub fn combine(row: LogicRow, insn: &Insn, operands: &Operands, cia: u64) -> Outcome
     requires { WritesFirst insn.now }
     ensures { result ≡ logic_of row insn.now operands.now cia }

@@ -6,7 +6,8 @@ use arrayvec::ArrayVec;
 use mw_decode::Insn;
 use mw_isa::{Outcome, Slot, Target};
 
-/// The operand at a place, a signed one extended to 64 bits.
+/// The operand at a place, counted from 0: a register's number, or a number in 64 bits, where a signed
+/// one is extended.
 pub fn operand(insn: &Insn, place: usize) -> u64
     requires { place < length insn.now.ops.items }
     ensures { result ≡ operand_of insn.now place }
@@ -14,7 +15,8 @@ pub fn operand(insn: &Insn, place: usize) -> u64
     insn.ops[place].cast_unsigned()
 }
 
-/// The content that was read for a register, or 0 where the operand at this place is register 0.
+/// The content that was read for a register, or 0 where the operand at this place is register 0 (Book I:
+/// RA|0).
 pub fn unless_zero(insn: &Insn, place: usize, content: u64) -> u64
     requires { place < length insn.now.ops.items }
     ensures { result ≡ or_zero insn.now place content }

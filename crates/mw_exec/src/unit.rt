@@ -6,7 +6,9 @@ use crate::{adder, branching, logic};
 use mw_decode::Insn;
 use mw_isa::{Operands, Operation, Outcome, operation_at};
 
-/// What an instruction at the address `cia` comes to (Book I).
+/// What an instruction at the effective address `cia` comes to, from the registers that it reads: what
+/// it writes, and the address of the next one (Book I). OE, Rc and LK aren't looked at: the forms that
+/// have them are for the caller to refuse.
 #[tactic(auto, unfolding(mw_isa::specs::Execute::exec_of))]
 pub fn exec(insn: &Insn, operands: &Operands, cia: u64) -> Outcome
     requires { IsInsn insn.now }

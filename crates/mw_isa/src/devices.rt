@@ -3,10 +3,14 @@ ghost use Rattle.mw_isa.specs.Devices.{devices_at, start_devices, cycle_of, dec_
 
 use std::marker::Model;
 
-/// The devices of the board and the cycle that they stand at: the decrementer, so far.
+/// The devices of the board and the cycle that they stand at: the decrementer, so far. Clauses see
+/// them as the three numbers of `DeviceData`.
 pub struct Devices {
+    /// The cycle that they stand at, counted from 0.
     cycle: u64,
+    /// The decrementer as it was last written.
     dec: u32,
+    /// The cycle of that writing.
     dec_at: u64,
 }
 
@@ -24,6 +28,12 @@ impl Model for Devices {
 }
 
 impl Clone for Devices {
+    ghost use Rattle.std.specs.Prelude.{◌≡◌, ⊤};
+
+    ghost is_clone = { λ devices copy. copy ≡ devices };
+
+    ghost is_infallible = { λ _. ⊤ };
+
     fn clone(&self) -> Result<Devices, std::alloc::AllocError> {
         Ok(*self)
     }
@@ -32,7 +42,7 @@ impl Clone for Devices {
 impl Copy for Devices {}
 
 impl Devices {
-    /// The devices at cycle 0.
+    /// The devices at cycle 0, the decrementer at its largest positive number.
     pub fn new() -> Devices
         ensures { result ≡ start_devices }
     {
@@ -51,14 +61,15 @@ impl Devices {
         self.cycle = cycle;
     }
 
-    /// The cycle that the devices stand at.
+    /// The cycle that the devices stand at, counted from 0.
     pub fn cycle(&self) -> u64
         ensures { result ≡ cycle_of self.now }
     {
         self.cycle
     }
 
-    /// The decrementer at this cycle.
+    /// The decrementer at this cycle: as it was last written, less one for each cycle since, in 32
+    /// bits (Book III, decrementer).
     pub fn dec(&self) -> u32
         ensures { result ≡ dec_of self.now }
     {

@@ -1,6 +1,7 @@
 use crate::vector::Vector;
 
-/// What happens in a cycle: an instruction retires or traps, or an interrupt is taken.
+/// What happens in a cycle, counted from 0: an instruction retires or traps, or an interrupt is taken.
+/// Addresses are effective ones.
 #[derive(Clone, Copy, Debug, PartialEq, Eq)]
 pub enum Event {
     /// An instruction took effect.

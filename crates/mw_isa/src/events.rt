@@ -20,7 +20,7 @@ impl Model for Events {
 }
 
 impl Events {
-    /// No event.
+    /// A list with no event. It takes no memory.
     pub fn new(alloc: Global) -> Events
         ensures { result ≡ [] }
     {
@@ -29,7 +29,7 @@ impl Events {
         }
     }
 
-    /// Appends the event. Without memory the list stays as it was.
+    /// Appends the event. Where memory is wanting the list stays as it was.
     pub fn push(&mut self, event: Event) -> Result<(), NoMemory>
         ensures ok { OnOk result (self.new ≡ self.old ++ event ∷ []) }
         ensures err { OnErr result (self.new ≡ self.old) }

@@ -21,3 +21,56 @@ pub use outcome::{Operands, Outcome, Slot, Target};
 pub use regs::Regs;
 pub use state::State;
 pub use vector::Vector;
+
+#[cfg(test)]
+mod tests {
+    use super::*;
+    use mw_decode::row_at;
+    use std::test::Fail;
+
+    #[test]
+    fn the_start_is_the_boards(rt: HostRuntime) {
+        // SF, HV, ME and LE are the bits 0, 3, 51 and 63 of MSR, counted from the left.
+        assert_eq!(rt; Regs::new().msr, (1 << 63) | (1 << 60) | (1 << 12) | 1);
+        let mut devices = Devices::new();
+        for (cycle, want) in [
+            (0, 0x7fff_ffff),
+            (20000, 0x7fff_b1df),
+            (0x7fff_ffff, 0),
+            (0x8000_0000, 0xffff_ffff),
+            (0x1_0000_0000, 0x7fff_ffff),
+        ] {
+            assert!(rt; devices.cycle() <= cycle);
+            devices.advance(cycle);
+            assert_eq!(rt; devices.dec(), want, "at {cycle}");
+        }
+    }
+
+    #[test]
+    fn operations_go_by_the_table(rt: HostRuntime) {
+        for (row, name, operation) in [
+            (0, "addi", Operation::Adder(AdderRow::Addi)),
+            (1, "addis", Operation::Adder(AdderRow::Addis)),
+            (2, "ori", Operation::Logic(LogicRow::Ori)),
+            (3, "b", Operation::Branch(BranchRow::B)),
+            (4, "add", Operation::Adder(AdderRow::Add)),
+        ] {
+            assert!(rt; row < 5);
+            assert_eq!(rt; row_at(row).name, name);
+            assert_eq!(rt; operation_at(row), operation, "{name}");
+        }
+    }
+
+    #[test]
+    fn events_are_kept(rt: HostRuntime) -> Result<(), Fail> {
+        let mut events = Events::new(rt.alloc());
+        let event = Event::Irq {
+            cycle: 7,
+            nia: 4,
+            vector: Vector::Decrementer,
+        };
+        events.push(event)?;
+        assert_eq!(rt; events.as_slice(), [event].as_slice());
+        Ok(())
+    }
+}

@@ -13,28 +13,28 @@ pub enum Operation {
     Branch(BranchRow),
 }
 
-/// The rows that add.
+/// The rows that add (Book I, fixed-point arithmetic instructions).
 #[derive(Clone, Copy, Debug, PartialEq, Eq)]
 pub enum AdderRow {
-    /// RA|0 and a signed number.
+    /// addi: RA|0 and a signed number.
     Addi,
-    /// RA|0 and a signed number shifted left by 16.
+    /// addis: RA|0 and a signed number shifted left by 16.
     Addis,
-    /// RA and RB.
+    /// add: RA and RB.
     Add,
 }
 
-/// The rows that work on single bits.
+/// The rows that work on single bits (Book I, fixed-point logical instructions).
 #[derive(Clone, Copy, Debug, PartialEq, Eq)]
 pub enum LogicRow {
-    /// RS or an unsigned number.
+    /// ori: RS or an unsigned number.
     Ori,
 }
 
-/// The rows that branch.
+/// The rows that branch (Book I, branch instructions).
 #[derive(Clone, Copy, Debug, PartialEq, Eq)]
 pub enum BranchRow {
-    /// Always.
+    /// b: always.
     B,
 }
 

@@ -3,11 +3,16 @@ use arrayvec::ArrayVec;
 /// A register that an instruction writes.
 #[derive(Clone, Copy, Debug, PartialEq, Eq)]
 pub enum Slot {
-    /// A general purpose register.
+    /// A general purpose register, by its number, 0 to 31.
     Gpr(u8),
 }
 
 impl Default for Slot {
+    ghost use Rattle.std.specs.Prelude.{◌≡◌};
+    ghost use Rattle.mw_isa.specs.declared.outcome.Slot.TheVariants.{Gpr};
+
+    ghost is_default = { λ slot. slot ≡ Gpr 0 };
+
     fn default() -> Slot {
         Slot::Gpr(0)
     }
@@ -22,7 +27,7 @@ pub struct Target {
     pub value: Option<u64>,
 }
 
-/// What an instruction reads of the registers.
+/// What an instruction reads of the registers; `a`, `b` and `c` are 0 where none is read.
 #[derive(Clone, Copy, Debug, PartialEq, Eq)]
 pub struct Operands {
     /// The first register among the operands that is read.

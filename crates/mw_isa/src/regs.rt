@@ -45,7 +45,8 @@ pub struct Regs {
 }
 
 impl Regs {
-    /// The registers at the start: every one 0 but MSR, and no reservation.
+    /// The registers at the start: every one 0 but MSR, which has SF, HV, ME and LE, and no reservation
+    /// (Book III, machine state register; the start is this board's own).
     pub fn new() -> Regs
         ensures { result ≡ start_regs }
     {

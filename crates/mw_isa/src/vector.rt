@@ -31,7 +31,7 @@ pub enum Vector {
 }
 
 impl Vector {
-    /// The real address that the interrupt is taken to.
+    /// The real address that the interrupt is taken to (Book III, interrupt vector locations).
     pub fn address(self) -> u64
         ensures { result ≡ address_of self }
     {

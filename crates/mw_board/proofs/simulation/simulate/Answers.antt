@@ -13,4 +13,4 @@ loop-cycle-preserved c =
 
 pub returns-clause-runs : goal.returns-clause-runs
 returns-clause-runs c =
-    made-end c.args.image.now c.args.n c.loop-cycle.events c.loop-cycle.cycle (seen c.loop-cycle.state) c.advance-2.new.self c.if-image-gt-RAM_SIZE.false (omega arith) c.loop-cycle.invariant c.advance-2.ensures
+    made-end c.args.image.now c.args.n c.loop-cycle.events c.loop-cycle.cycle (seen c.loop-cycle.state) c.advance-2.new.self (omega arith) (omega arith) c.loop-cycle.invariant c.advance-2.ensures

@@ -1,0 +1,128 @@
+use super::{RunFault, simulate};
+use mw_isa::{End, Event};
+use std::alloc::{AllocError as NoMemory, Global};
+use std::test::Fail;
+
+/// The bytes of words in little-endian order.
+fn image_of(alloc: Global, words: &[u32]) -> Result<Vec<u8>, NoMemory> {
+    let mut image = Vec::new(alloc);
+    for word in words {
+        image.extend_from_slice(&word.to_le_bytes())?;
+    }
+    Ok(image)
+}
+
+/// An instruction that retires.
+fn retire(cycle: u64, cia: u64, word: u32) -> Event {
+    Event::Retire {
+        cycle,
+        cia,
+        word,
+        suffix: None,
+    }
+}
+
+#[test]
+fn a_run_has_an_event_a_cycle(rt: HostRuntime) -> Result<(), Fail> {
+    let alloc = rt.alloc();
+    // addi r3,0,5; b .
+    let image = [0x05, 0x00, 0x60, 0x38, 0x00, 0x00, 0x00, 0x48];
+    match simulate(alloc, &image, 20000) {
+        Ok(run) => {
+            let events = run.events.as_slice();
+            assert_eq!(rt; events.len(), 20000);
+            assert_eq!(rt; events[0], retire(0, 0, 0x3860_0005));
+            assert_eq!(rt; events[1], retire(1, 4, 0x4800_0000));
+            assert_eq!(rt; events[19999], retire(19999, 4, 0x4800_0000));
+            assert_eq!(rt; run.end, End::Ran { cycle: 20000 });
+            assert_eq!(rt; [run.state.regs.gpr[3], run.state.regs.cia], [5, 4]);
+            assert_eq!(rt; run.state.devices.dec(), 0x7fff_b1df);
+        }
+        Err(fault) => panic!(rt; "{fault:?}"),
+    }
+    match simulate(alloc, &image, 0) {
+        Ok(run) => {
+            assert_eq!(rt; run.events.as_slice().len(), 0);
+            assert_eq!(rt; [run.state.regs.gpr[3], run.state.regs.cia], [0, 0]);
+        }
+        Err(fault) => panic!(rt; "{fault:?}"),
+    }
+    Ok(())
+}
+
+/// The words of an image, a number of cycles, and why there is no run.
+struct Refused(&'static [u32], u64, RunFault);
+
+/// The first instruction isn't built.
+const AT_ONCE: RunFault = RunFault::Unbuilt { cycle: 0, cia: 0 };
+
+#[rattlefmt::skip]
+static REFUSED: [Refused; 7] = [
+    Refused(&[], 1, AT_ONCE),
+    Refused(&[0x3860_0005], 2, RunFault::Unbuilt { cycle: 1, cia: 4 }), // addi r3,0,5
+    Refused(&[0x4800_0008, 0, 0x7ca3_2615], 9, RunFault::Unbuilt { cycle: 1, cia: 8 }), // b 8, addo. r5,r3,r4
+    Refused(&[0x4800_0001], 1, AT_ONCE), // bl 0
+    Refused(&[0x7ca3_2215], 1, AT_ONCE), // add. r5,r3,r4
+    Refused(&[0x7ca3_2614], 1, AT_ONCE), // addo r5,r3,r4
+    Refused(&[0x0600_0000, 0x3860_0005], 1, AT_ONCE), // paddi r3,0,5
+];
+
+#[test]
+fn what_is_not_built_is_refused(rt: HostRuntime) -> Result<(), Fail> {
+    let alloc = rt.alloc();
+    for Refused(words, n, want) in &REFUSED {
+        assert!(rt; *n <= 9);
+        let image = image_of(alloc, *words)?;
+        match simulate(alloc, image.as_slice(), *n) {
+            Ok(_) => panic!(rt; "{words:?} runs"),
+            Err(fault) => assert_eq!(rt; fault, *want, "{words:?}"),
+        }
+    }
+    let zeros = vec![in alloc; 0; 16777217]?;
+    match simulate(alloc, zeros.as_slice(), 0) {
+        Ok(_) => panic!(rt; "too large an image runs"),
+        Err(fault) => assert_eq!(rt; fault, RunFault::ImageTooLarge),
+    }
+    assert!(rt; simulate(alloc, &zeros.as_slice()[1..], 0).is_ok());
+    Ok(())
+}
+
+/// The words of an image, a number of cycles, the last address, and registers with their contents.
+struct Program(&'static [u32], u64, u64, &'static [(usize, u64)]);
+
+#[rattlefmt::skip]
+static PROGRAMS: [Program; 4] = [
+    // addi r3,0,5, and zeros behind it that aren't reached
+    Program(&[0x3860_0005], 1, 4, &[(3, 5)]),
+    // addis r3,0,4660; ori r3,r3,22136; addi r4,0,-1; add r5,r3,r4; b .
+    Program(&[0x3c60_1234, 0x6063_5678, 0x3880_ffff, 0x7ca3_2214, 0x4800_0000], 7, 16,
+        &[(3, 0x1234_5678), (4, 0xffff_ffff_ffff_ffff), (5, 0x1234_5677)]),
+    // addi r0,0,7; addi r3,0,5; add r4,r0,r3; ba 4
+    Program(&[0x3800_0007, 0x3860_0005, 0x7c80_1a14, 0x4800_0006], 4, 4, &[(0, 7), (3, 5), (4, 12)]),
+    // b 12; a zero; ba -4; b -4; to a word outside of RAM, which isn't reached
+    Program(&[0x4800_000c, 0, 0x4bff_fffe, 0x4bff_fffc], 3, 0xffff_ffff_ffff_fffc, &[(3, 0)]),
+];
+
+#[test]
+fn programs_leave_their_registers(rt: HostRuntime) -> Result<(), Fail> {
+    let alloc = rt.alloc();
+    for Program(words, n, cia, contents) in &PROGRAMS {
+        assert!(rt; *n <= 9);
+        let image = image_of(alloc, *words)?;
+        match simulate(alloc, image.as_slice(), *n) {
+            Ok(run) => {
+                assert_eq!(rt; run.state.regs.cia, *cia, "{words:?}");
+                for (number, content) in *contents {
+                    assert!(rt; *number < 32);
+                    assert_eq!(rt;
+                        run.state.regs.gpr[*number],
+                        *content,
+                        "r{number} of {words:?}"
+                    );
+                }
+            }
+            Err(fault) => panic!(rt; "{fault:?} at {words:?}"),
+        }
+    }
+    Ok(())
+}
