@@ -1,5 +1,5 @@
 -- One instruction of the plain board, from what its parts gave.
-use Rattle.std.proofs.Common.{◌≡◌, ℕ, true, false, Option, Some, None, refl, sym, ap, ap₂, ◌∙◌}
+use Rattle.std.proofs.Common.{◌≡◌, ℕ, true, false, Option, Some, None, refl, sym, ap, ap₂, ◌∙◌, Bool, ◌&&◌}
 use Rattle.mw_decode.specs.declared.insn.Insn.{Insn}
 use Rattle.mw_decode.specs.declared.insn.Decoded.{Decoded}
 use Rattle.mw_decode.specs.declared.insn.Decoded.TheVariants.{Insn as Is}
@@ -11,9 +11,9 @@ use Rattle.mw_isa.specs.State.{State}
 use Rattle.mw_isa.specs.Devices.{cycle_of}
 use Rattle.mw_isa.specs.Fetch.{fetched}
 use Rattle.mw_isa.specs.Execute.{operands_of, exec_of}
-use Rattle.mw_isa.specs.Step.{Stepped, after_of, decoded, is_built}
+use Rattle.mw_isa.specs.Step.{Stepped, step, after_of, decoded, builds, is_built, is_built_outcome}
 use Rattle.mw_isa.specs.Replay.{acted}
-use Rattle.mw_isa.proofs.StepLaws.{step-known, builds-known, acted-retire}
+use Rattle.mw_isa.proofs.StepLaws.{step-known, builds-known, builds-not, acted-retire}
 use Rattle.mw_board.specs.Plain.{Turns}
 
 -- what was fetched and what it decoded to
@@ -26,21 +26,31 @@ pub record Met (state : State) (word : ℕ) (suffix : Option ℕ) (what : Decode
 met : (state : State) (word : ℕ) (suffix : Option ℕ) (what : Decoded) → Met state word suffix what → decoded state ≡ what
 met state word suffix what m = sym (m.what_is ∙ ap₂ decode_of m.word_is m.suffix_is)
 
--- an instruction that isn't built
+-- an instruction that isn't built by what it is
 pub turns-none : (state : State) (word : ℕ) (suffix : Option ℕ) (what : Decoded) → Met state word suffix what → is_built what ≡ false → Turns None state state
-turns-none state word suffix what m unbuilt = (builds-known state what (met state word suffix what m) ∙ unbuilt, refl)
+turns-none state word suffix what m unbuilt = (builds-not state what (met state word suffix what m) unbuilt, refl)
+
+-- what an instruction comes to, from the operands that were read
+executed : (state : State) (insn : Insn) (operands : Operands) (outcome : Outcome) → operands ≡ operands_of insn state.regs → exec_of insn operands state.regs.cia ≡ Some outcome → exec_of insn (operands_of insn state.regs) state.regs.cia ≡ Some outcome
+executed state insn operands outcome o e = ap (λ (v : Operands). exec_of insn v state.regs.cia) (sym o) ∙ e
+
+-- an instruction that isn't built by what it comes to
+pub turns-stopped : (state : State) (word : ℕ) (suffix : Option ℕ) (insn : Insn) (operands : Operands) (outcome : Outcome) → Met state word suffix (Is insn) → is_built (Is insn) ≡ true → operands ≡ operands_of insn state.regs → exec_of insn operands state.regs.cia ≡ Some outcome → is_built_outcome (Some outcome) ≡ false → Turns None state state
+turns-stopped state word suffix insn operands outcome m built o e stopped =
+    (builds-known insn outcome state (met state word suffix (Is insn) m) (executed state insn operands outcome o e) ∙ ap₂ (λ (a : Bool) (b : Bool). a && b) built stopped, refl)
 
 -- an instruction that is built
-pub turns-some : (state after : State) (word : ℕ) (suffix : Option ℕ) (insn : Insn) (operands : Operands) (outcome : Outcome) (cycle : ℕ) → Met state word suffix (Is insn) → is_built (Is insn) ≡ true → operands ≡ operands_of insn state.regs → exec_of insn operands state.regs.cia ≡ Some outcome → after ≡ after_of (Some outcome) state → cycle ≡ cycle_of state.devices → Turns (Some (Retire cycle state.regs.cia word suffix)) state after
-turns-some state after word suffix insn operands outcome cycle m built o e a at =
+pub turns-some : (state after : State) (word : ℕ) (suffix : Option ℕ) (insn : Insn) (operands : Operands) (outcome : Outcome) (cycle : ℕ) → Met state word suffix (Is insn) → is_built (Is insn) ≡ true → operands ≡ operands_of insn state.regs → exec_of insn operands state.regs.cia ≡ Some outcome → is_built_outcome (Some outcome) ≡ true → after ≡ after_of (Some outcome) state.regs.cia state → cycle ≡ cycle_of state.devices → Turns (Some (Retire cycle state.regs.cia word suffix)) state after
+turns-some state after word suffix insn operands outcome cycle m built o e done a at =
     let d = met state word suffix (Is insn) m in
-    let x : exec_of insn (operands_of insn state.regs) state.regs.cia ≡ Some outcome = ap (λ (v : Operands). exec_of insn v state.regs.cia) (sym o) ∙ e in
+    let x = executed state insn operands outcome o e in
+    let b : builds state ≡ true = builds-known insn outcome state d x ∙ ap₂ (λ (p : Bool) (q : Bool). p && q) built done in
     record {
-      built = builds-known state (Is insn) d ∙ built;
+      built = b;
       cycle = at;
       acts =
-          ap₂ (λ (w : ℕ) (s : Option ℕ). acted (Retire cycle state.regs.cia w s) state) m.word_is m.suffix_is
-          ∙ acted-retire cycle insn outcome state d built x
-          ∙ ap Some (sym a);
+        ap₂ (λ (w : ℕ) (s : Option ℕ). acted (Retire cycle state.regs.cia w s) state) m.word_is m.suffix_is
+        ∙ acted-retire cycle insn outcome state d b x
+        ∙ ap Some (sym a);
       steps = ap (λ (r : Stepped). r.after) (step-known insn outcome state d x) ∙ sym a;
     }

@@ -1,12 +1,14 @@
-ghost use Rattle.std.specs.Prelude.{◌≡◌, ◌<◌, ◌%◌, ◌^◌, length, Some, None, is_some, slice_set};
+ghost use Rattle.std.specs.Prelude.{◌≡◌, ◌<◌, length, true, is_some};
 ghost use Rattle.mw_decode.specs.Decode.{IsInsn, is_prefix};
-ghost use Rattle.mw_isa.specs.Fetch.{fetched_at, real_of, suffix_at};
+ghost use Rattle.mw_isa.specs.Fetch.{fetched_at, suffix_at};
 ghost use Rattle.mw_isa.specs.Execute.{operands_of, operands_by, sources_of, operand_of, content_of, set_targets, set_target};
 ghost use Rattle.mw_isa.specs.Shaped.{IsShaped, IsRegister};
 ghost use Rattle.mw_isa.specs.State.{seen};
-ghost use Rattle.mw_isa.specs.Step.{after_of, is_built};
+ghost use Rattle.mw_isa.specs.Step.{after_of, is_built, is_built_outcome, next_of, written};
+ghost use Rattle.mw_isa.specs.Access.{IsSized, OnMemory};
 ghost use Rattle.mw_board.specs.Plain.{Turns};
 
+use crate::access::{access, can_access, real, set_gpr};
 use mw_bus::Ram;
 use mw_decode::{Decoded, Insn, Shape, decode, is_prefix, row_at};
 use mw_exec::exec;
@@ -17,14 +19,6 @@ use mw_isa::{Event, Operands, Outcome, Regs, Slot, State, Target};
 struct Fetched {
     word: u32,
     suffix: Option<u32>,
-}
-
-/// The real address of an effective one while translation is off.
-fn real(effective: u64) -> u64
-    ensures value { result ≡ real_of effective }
-    ensures bound { result < 2 ^ 60 }
-{
-    effective % 0x1000_0000_0000_0000
 }
 
 /// The word behind the one at an address, where that is a prefix.
@@ -62,13 +56,13 @@ fn content(insn: &Insn, place: usize, regs: &Regs) -> u64
 }
 
 /// The operands of these contents and of the special registers.
-fn with_special(a: u64, b: u64, regs: &Regs) -> Operands
-    ensures { result ≡ record { a = a; b = b; c = 0; cr = regs.now.cr; xer = regs.now.xer; lr = regs.now.lr; ctr = regs.now.ctr; tar = regs.now.tar; msr = regs.now.msr } }
+fn with_special(a: u64, b: u64, c: u64, regs: &Regs) -> Operands
+    ensures { result ≡ record { a = a; b = b; c = c; cr = regs.now.cr; xer = regs.now.xer; lr = regs.now.lr; ctr = regs.now.ctr; tar = regs.now.tar; msr = regs.now.msr } }
 {
     Operands {
         a,
         b,
-        c: 0,
+        c,
         cr: regs.cr,
         xer: regs.xer,
         lr: regs.lr,
@@ -84,10 +78,19 @@ fn read_operands(shape: Shape, insn: &Insn, regs: &Regs) -> Operands
     ensures { result ≡ operands_by (sources_of shape) insn.now regs.now }
 {
     match shape {
-        Shape::RtRaSi => with_special(content(insn, 1, regs), 0, regs),
-        Shape::RaRsUi => with_special(content(insn, 1, regs), 0, regs),
-        Shape::Target => with_special(0, 0, regs),
-        Shape::RtRaRb => with_special(content(insn, 1, regs), content(insn, 2, regs), regs),
+        Shape::RtRaSi => with_special(content(insn, 1, regs), 0, 0, regs),
+        Shape::RaRsUi => with_special(content(insn, 1, regs), 0, 0, regs),
+        Shape::Target => with_special(0, 0, 0, regs),
+        Shape::RtRaRb => with_special(content(insn, 1, regs), content(insn, 2, regs), 0, regs),
+        Shape::RtDRa => with_special(content(insn, 2, regs), 0, 0, regs),
+        Shape::RsDRa => with_special(content(insn, 2, regs), 0, content(insn, 0, regs), regs),
+        Shape::RsRaRb => with_special(
+            content(insn, 1, regs),
+            content(insn, 2, regs),
+            content(insn, 0, regs),
+            regs,
+        ),
+        Shape::RaRb => with_special(content(insn, 0, regs), content(insn, 1, regs), 0, regs),
     }
 }
 
@@ -98,15 +101,6 @@ fn operands(insn: &Insn, regs: &Regs) -> Operands
     ensures { result ≡ operands_of insn.now regs.now }
 {
     read_operands(row_at(insn.row).shape, insn, regs)
-}
-
-/// Sets a general purpose register.
-fn set_gpr(regs: &mut Regs, number: u8, value: u64)
-    ensures { regs.new ≡ record regs.old { gpr = slice_set regs.old.gpr number value } }
-{
-    if number < 32 {
-        regs.gpr[number as usize] = value;
-    }
 }
 
 /// Writes a register with its value, if that is known.
@@ -129,15 +123,46 @@ fn write_targets(regs: &mut Regs, targets: &[Target])
     }
 }
 
-/// Leaves the state behind an instruction.
-fn retire(state: &mut State, outcome: &Outcome)
-    ensures { seen state.new ≡ after_of (Some outcome.now) (seen state.old) }
+/// Writes what an outcome writes.
+fn write_outcome(state: &mut State, outcome: &Outcome)
+    requires sized { OnMemory IsSized outcome.now }
+    requires built { is_built_outcome (Some outcome.now) ≡ true }
+    ensures { seen state.new ≡ written outcome.now (seen state.old) }
 {
     match outcome {
-        Outcome::Done { targets, next } => {
-            write_targets(&mut state.regs, targets.as_slice());
-            state.regs.cia = *next;
-        }
+        Outcome::Done { targets, .. } => write_targets(&mut state.regs, targets.as_slice()),
+        Outcome::Memory(op) => access(op, state),
+    }
+}
+
+/// The address of the next instruction.
+fn next(outcome: &Outcome, cia: u64) -> u64
+    ensures { result ≡ next_of outcome.now cia }
+{
+    match outcome {
+        Outcome::Done { next, .. } => *next,
+        Outcome::Memory(_) => cia.wrapping_add(4),
+    }
+}
+
+/// Leaves the state behind an instruction at an address.
+fn retire(state: &mut State, cia: u64, outcome: &Outcome)
+    requires sized { OnMemory IsSized outcome.now }
+    requires built { is_built_outcome (Some outcome.now) ≡ true }
+    ensures { seen state.new ≡ after_of (Some outcome.now) cia (seen state.old) }
+{
+    write_outcome(state, outcome);
+    state.regs.cia = next(outcome, cia);
+}
+
+/// Whether an outcome is built.
+fn has_built_outcome(outcome: &Outcome) -> bool
+    requires { OnMemory IsSized outcome.now }
+    ensures { result ≡ is_built_outcome (Some outcome.now) }
+{
+    match outcome {
+        Outcome::Done { .. } => true,
+        Outcome::Memory(op) => can_access(op),
     }
 }
 
@@ -162,7 +187,10 @@ pub fn turn(state: &mut State) -> Option<Event>
         return None;
     }
     let outcome = exec(&insn, &operands(&insn, &state.regs), cia);
-    retire(state, &outcome);
+    if !has_built_outcome(&outcome) {
+        return None;
+    }
+    retire(state, cia, &outcome);
     Some(Event::Retire {
         cycle: state.devices.cycle(),
         cia,

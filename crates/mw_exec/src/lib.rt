@@ -5,6 +5,7 @@ mod adder;
 mod branching;
 mod logic;
 mod operand;
+mod storage;
 mod unit;
 
 pub use unit::exec;

@@ -1,8 +1,10 @@
 ghost use Rattle.std.specs.Prelude.{◌≡◌};
 ghost use Rattle.mw_decode.specs.Decode.{IsInsn};
+ghost use Rattle.mw_isa.specs.Access.{IsSized, OnMemory};
 ghost use Rattle.mw_isa.specs.Execute.{exec_of};
 
-use crate::{adder, branching, logic};
+use crate::operand::branch_without_link;
+use crate::{adder, branching, logic, storage};
 use mw_decode::Insn;
 use mw_isa::{Operands, Operation, Outcome, operation_at};
 
@@ -12,11 +14,14 @@ use mw_isa::{Operands, Operation, Outcome, operation_at};
 #[tactic(auto, unfolding(mw_isa::specs::Execute::exec_of))]
 pub fn exec(insn: &Insn, operands: &Operands, cia: u64) -> Outcome
     requires { IsInsn insn.now }
-    ensures { exec_of insn.now operands.now cia ≡ Some result }
+    ensures outcome { exec_of insn.now operands.now cia ≡ Some result }
+    ensures sized { OnMemory IsSized result }
 {
     match operation_at(insn.row) {
         Operation::Adder(row) => adder::add(row, insn, operands, cia),
         Operation::Logic(row) => logic::combine(row, insn, operands, cia),
         Operation::Branch(row) => branching::branch(row, insn, operands, cia),
+        Operation::Storage(row) => storage::access(row, insn, operands),
+        Operation::Hint => branch_without_link(cia.wrapping_add(4)),
     }
 }

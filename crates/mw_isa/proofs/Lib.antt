@@ -2,3 +2,4 @@
 pub mod RowLaws
 pub mod StepLaws
 pub mod ReplayLaws
+pub mod AccessLaws

@@ -7,6 +7,8 @@ pub mod Start
 pub mod Fetch
 pub mod Operations
 pub mod Execute
+pub mod Targets
+pub mod Access
 pub mod Shaped
 pub mod Step
 pub mod Replay

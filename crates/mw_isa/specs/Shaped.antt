@@ -2,9 +2,11 @@
 use Rattle.std.specs.Prelude.{ℕ, ◌≡◌, ◌<◌, length}
 use Rattle.mw_decode.specs.declared.insn.Insn.{Insn}
 use Rattle.mw_decode.specs.declared.row.Shape.{Shape}
-use Rattle.mw_decode.specs.declared.row.Shape.TheVariants.{RtRaSi, RaRsUi, Target as Displacement, RtRaRb}
+use Rattle.mw_decode.specs.declared.row.Shape.TheVariants.{RtRaSi, RaRsUi, Target as Displacement, RtRaRb, RtDRa, RsDRa, RsRaRb, RaRb}
 use Rattle.mw_isa.specs.declared.operation.Operation.{Operation}
 use Rattle.mw_isa.specs.declared.operation.Operation.TheVariants.{Adder, Logic, Branch}
+use Rattle.mw_isa.specs.declared.operation.Address.{Address}
+use Rattle.mw_isa.specs.declared.operation.Address.TheVariants.{Displaced, Indexed, Block}
 use Rattle.mw_isa.specs.Execute.{operand_of}
 
 -- the operand at a place is the number of a register
@@ -17,13 +19,17 @@ IsShaped RtRaSi insn = (length insn.ops.items ≡ 3) × IsRegister insn 0 × IsR
 IsShaped RaRsUi insn = (length insn.ops.items ≡ 3) × IsRegister insn 0 × IsRegister insn 1
 IsShaped Displacement insn = length insn.ops.items ≡ 1
 IsShaped RtRaRb insn = (length insn.ops.items ≡ 3) × IsRegister insn 0 × IsRegister insn 1 × IsRegister insn 2
+IsShaped RtDRa insn = (length insn.ops.items ≡ 3) × IsRegister insn 0 × IsRegister insn 2
+IsShaped RsDRa insn = (length insn.ops.items ≡ 3) × IsRegister insn 0 × IsRegister insn 2
+IsShaped RsRaRb insn = (length insn.ops.items ≡ 3) × IsRegister insn 0 × IsRegister insn 1 × IsRegister insn 2
+IsShaped RaRb insn = (length insn.ops.items ≡ 2) × IsRegister insn 0 × IsRegister insn 1
 
 -- three operands, the first of which is a register
 abbrev pub WritesFirst : Insn → Type 0
 WritesFirst insn = (length insn.ops.items ≡ 3) × IsRegister insn 0
 
--- what an operation needs of its operands
-abbrev pub IsReady : Operation → Insn → Type 0
-IsReady (Adder row) insn = WritesFirst insn
-IsReady (Logic row) insn = WritesFirst insn
-IsReady (Branch row) insn = length insn.ops.items ≡ 1
+-- the operands that an address needs: RT or RS and RA; of a block RA
+abbrev pub IsPlaced : Address → Insn → Type 0
+IsPlaced Displaced insn = (length insn.ops.items ≡ 3) × IsRegister insn 0 × IsRegister insn 2
+IsPlaced Indexed insn = (length insn.ops.items ≡ 3) × IsRegister insn 0 × IsRegister insn 1
+IsPlaced Block insn = (length insn.ops.items ≡ 2) × IsRegister insn 0 × IsRegister insn 1

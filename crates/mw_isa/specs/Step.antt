@@ -1,5 +1,5 @@
 -- One instruction, carried out on a state whose devices stand at its cycle (Books I to III).
-use Rattle.std.specs.Prelude.{ℕ, Bool, false, not, ◌&&◌, List, [], ◌∷◌, Option, Some, None, option_and_then}
+use Rattle.std.specs.Prelude.{ℕ, Bool, true, false, not, ◌&&◌, List, [], ◌∷◌, Option, Some, None, option_and_then}
 use Rattle.mw_decode.specs.declared.insn.Insn.{Insn}
 use Rattle.mw_decode.specs.declared.insn.Decoded.{Decoded}
 use Rattle.mw_decode.specs.declared.insn.Decoded.TheVariants.{Insn as Is, Illegal}
@@ -9,12 +9,13 @@ use Rattle.mw_isa.specs.declared.access.Touch.{Touch}
 use Rattle.mw_isa.specs.declared.access.Deed.{Deed}
 use Rattle.mw_isa.specs.declared.access.Deed.TheVariants.{Plain}
 use Rattle.mw_isa.specs.declared.outcome.Outcome.{Outcome}
-use Rattle.mw_isa.specs.declared.outcome.Outcome.TheVariants.{Done}
+use Rattle.mw_isa.specs.declared.outcome.Outcome.TheVariants.{Done, Memory}
 use Rattle.mw_isa.specs.declared.regs.Regs.{Regs}
 use Rattle.mw_isa.specs.declared.vector.Vector.{Vector}
 use Rattle.mw_isa.specs.State.{State}
-use Rattle.mw_isa.specs.Fetch.{Fetched, fetched}
+use Rattle.mw_isa.specs.Fetch.{Fetched, fetched, behind}
 use Rattle.mw_isa.specs.Execute.{operands_of, exec_of, set_targets}
+use Rattle.mw_isa.specs.Access.{accessed, is_built_access, touches_of, deed_by}
 
 -- an interrupt that an instruction raises: its vector, its cause in SRR1, and DAR and DSISR where they change
 pub record Raised : Type 0 where
@@ -44,36 +45,53 @@ insn_in Illegal = None
 unfoldable pub outcome_of : Option Insn → ℕ → Regs → Option Outcome
 outcome_of insn at regs = option_and_then (λ insn. exec_of insn (operands_of insn regs) at) insn
 
--- the registers that an outcome writes; never the instruction's address
-abbrev pub written : Outcome → Regs → Regs
-written (Done targets next) regs = set_targets targets.items regs
+-- what an outcome writes; never the instruction's address
+abbrev pub written : Outcome → State → State
+written (Done targets next) state = record state { regs = set_targets targets.items state.regs }
+written (Memory op) state = accessed op state
 
--- the address of the next instruction
-abbrev pub next_of : Outcome → ℕ
-next_of (Done targets next) = next
+-- the address of the next instruction, from that of this one
+abbrev pub next_of : Outcome → ℕ → ℕ
+next_of (Done targets next) at = next
+next_of (Memory op) at = behind at
 
--- the registers behind an instruction: those that it wrote, at the next instruction
-abbrev pub regs_after : Outcome → Regs → Regs
-regs_after outcome regs = record (written outcome regs) { cia = next_of outcome }
+-- a state at an instruction
+abbrev pub at_address : ℕ → State → State
+at_address at state = record state { regs = record state.regs { cia = at } }
 
--- the state that an outcome leaves; without one nothing changes
-abbrev pub after_of : Option Outcome → State → State
-after_of None state = state
-after_of (Some outcome) state = record state { regs = regs_after outcome state.regs }
+-- the state that the outcome of an instruction at an address leaves; without one nothing changes
+abbrev pub after_of : Option Outcome → ℕ → State → State
+after_of None at state = state
+after_of (Some outcome) at state = at_address (next_of outcome at) (written outcome state)
 
--- an instruction at an address, from the words that it was made of; no instruction that is built raises an
--- interrupt or touches storage but by its fetch
-abbrev pub step_of : Option Insn → Fetched → ℕ → State → Stepped
-step_of insn words at state = record {
+-- the accesses to data of an outcome, in order
+abbrev pub data_of : Option Outcome → List Touch
+data_of None = []
+data_of (Some (Done targets next)) = []
+data_of (Some (Memory op)) = touches_of op
+
+-- the deed of an outcome
+abbrev pub deed_of : Option Outcome → State → Deed
+deed_of None state = Plain
+deed_of (Some (Done targets next)) state = Plain
+deed_of (Some (Memory op)) state = deed_by op.what op state
+
+-- an instruction at an address, from the words that it was made of; none that is built raises an interrupt
+abbrev pub step_by : Option Insn → Option Outcome → Fetched → ℕ → State → Stepped
+step_by insn outcome words at state = record {
   insn = insn;
-  outcome = outcome_of insn at state.regs;
+  outcome = outcome;
   trap = None;
   word = words.word;
   suffix = words.suffix;
-  accesses = record { kind = Fetch; ea = at } ∷ [];
-  deed = Plain;
-  after = after_of (outcome_of insn at state.regs) state;
+  accesses = record { kind = Fetch; ea = at } ∷ data_of outcome;
+  deed = deed_of outcome state;
+  after = after_of outcome at state;
 }
+
+-- an instruction at an address
+abbrev pub step_of : Option Insn → Fetched → ℕ → State → Stepped
+step_of insn words at state = step_by insn (outcome_of insn at state.regs) words at state
 
 -- what the words of the next instruction are
 abbrev pub decoded : State → Decoded
@@ -88,6 +106,12 @@ abbrev pub is_built : Decoded → Bool
 is_built (Is insn) = not insn.oe && (not insn.rc && not insn.lk)
 is_built Illegal = false
 
+-- an outcome that is built: it raises no interrupt and reaches no device that isn't built
+abbrev pub is_built_outcome : Option Outcome → Bool
+is_built_outcome None = false
+is_built_outcome (Some (Done targets next)) = true
+is_built_outcome (Some (Memory op)) = is_built_access op
+
 -- the next instruction is built
 unfoldable pub builds : State → Bool
-builds state = is_built (decoded state)
+builds state = is_built (decoded state) && is_built_outcome (step state).outcome

@@ -1,3 +1,5 @@
+use arrayvec::ArrayVec;
+
 /// What an access to storage is for.
 #[derive(Clone, Copy, Debug, PartialEq, Eq)]
 pub enum Kind {
@@ -19,10 +21,20 @@ pub struct Touch {
 }
 
 /// What an instruction does to changed code and changed translations.
-#[derive(Clone, Copy, Debug, PartialEq, Eq)]
+#[derive(Debug, Drop)]
 pub enum Deed {
     /// Nothing.
     Plain,
+    /// Bytes of RAM are stored to.
+    Store {
+        /// Which ones, in the order of the access, a stretch a page.
+        spans: ArrayVec<Span, 2>,
+    },
+    /// The copy of a block among the instructions is given up.
+    Icbi {
+        /// The block's number: its real address divided by 64.
+        block: u32,
+    },
 }
 
 /// A stretch of RAM: `len` bytes from the real address `at` on.

@@ -6,6 +6,7 @@ mod access;
 mod devices;
 mod event;
 mod events;
+mod memory;
 mod operation;
 mod outcome;
 mod regs;
@@ -16,7 +17,10 @@ pub use access::{Deed, Kind, Span, Touch};
 pub use devices::Devices;
 pub use event::{End, Event};
 pub use events::Events;
-pub use operation::{AdderRow, BranchRow, LogicRow, Operation, operation_at};
+pub use memory::{MemOp, MemWhat};
+pub use operation::{
+    AdderRow, Address, BranchRow, LogicRow, Operation, StorageRow, operation_at,
+};
 pub use outcome::{Operands, Outcome, Slot, Target};
 pub use regs::Regs;
 pub use state::State;

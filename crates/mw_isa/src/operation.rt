@@ -2,6 +2,8 @@ ghost use Rattle.std.specs.Prelude.{◌≡◌, ◌<◌, slice_get};
 ghost use Rattle.mw_isa.specs.Operations.{operations};
 ghost use Rattle.mw_decode.specs.Rows.{row_count};
 
+use crate::memory::MemWhat;
+
 /// What a row of the instruction table does, by the unit that does it.
 #[derive(Clone, Copy, Debug, PartialEq, Eq)]
 pub enum Operation {
@@ -11,6 +13,10 @@ pub enum Operation {
     Logic(LogicRow),
     /// A branch.
     Branch(BranchRow),
+    /// An access to storage.
+    Storage(StorageRow),
+    /// A hint, which changes nothing and accesses nothing (dcbt, dcbtst).
+    Hint,
 }
 
 /// The rows that add (Book I, fixed-point arithmetic instructions).
@@ -38,14 +44,106 @@ pub enum BranchRow {
     B,
 }
 
+/// Where an access finds its effective address, and with it the places of its operands.
+#[derive(Clone, Copy, Debug, PartialEq, Eq)]
+pub enum Address {
+    /// RA|0 and a signed number: RT,D(RA) or RS,D(RA).
+    Displaced,
+    /// RA|0 and RB: RT,RA,RB or RS,RA,RB.
+    Indexed,
+    /// RA|0 and RB: RA,RB.
+    Block,
+}
+
+/// A row that accesses storage (Book I, fixed-point storage access instructions; Book II, cache
+/// management and atomic update).
+#[derive(Clone, Copy, Debug, PartialEq, Eq)]
+pub struct StorageRow {
+    /// What it does with the bytes.
+    pub what: MemWhat,
+    /// How many bytes it accesses.
+    pub len: u8,
+    /// Where its address comes from.
+    pub address: Address,
+    /// Whether the effective address goes into RA.
+    pub update: bool,
+}
+
 /// What each row does, in the order of the instruction table.
 #[rattlefmt::skip]
-static OPERATIONS: [Operation; 5] = [
-    Operation::Adder(AdderRow::Addi),
-    Operation::Adder(AdderRow::Addis),
-    Operation::Logic(LogicRow::Ori),
-    Operation::Branch(BranchRow::B),
-    Operation::Adder(AdderRow::Add),
+static OPERATIONS: [Operation; 72] = [
+    Operation::Adder(AdderRow::Addi), // addi
+    Operation::Adder(AdderRow::Addis), // addis
+    Operation::Logic(LogicRow::Ori), // ori
+    Operation::Branch(BranchRow::B), // b
+    Operation::Adder(AdderRow::Add), // add
+    Operation::Storage(StorageRow { what: MemWhat::Load { signed: false, reversed: false, reserve: false }, len: 4, address: Address::Displaced, update: false }), // lwz
+    Operation::Storage(StorageRow { what: MemWhat::Load { signed: false, reversed: false, reserve: false }, len: 4, address: Address::Displaced, update: true }), // lwzu
+    Operation::Storage(StorageRow { what: MemWhat::Load { signed: false, reversed: false, reserve: false }, len: 1, address: Address::Displaced, update: false }), // lbz
+    Operation::Storage(StorageRow { what: MemWhat::Load { signed: false, reversed: false, reserve: false }, len: 1, address: Address::Displaced, update: true }), // lbzu
+    Operation::Storage(StorageRow { what: MemWhat::Store { reversed: false }, len: 4, address: Address::Displaced, update: false }), // stw
+    Operation::Storage(StorageRow { what: MemWhat::Store { reversed: false }, len: 4, address: Address::Displaced, update: true }), // stwu
+    Operation::Storage(StorageRow { what: MemWhat::Store { reversed: false }, len: 1, address: Address::Displaced, update: false }), // stb
+    Operation::Storage(StorageRow { what: MemWhat::Store { reversed: false }, len: 1, address: Address::Displaced, update: true }), // stbu
+    Operation::Storage(StorageRow { what: MemWhat::Load { signed: false, reversed: false, reserve: false }, len: 2, address: Address::Displaced, update: false }), // lhz
+    Operation::Storage(StorageRow { what: MemWhat::Load { signed: false, reversed: false, reserve: false }, len: 2, address: Address::Displaced, update: true }), // lhzu
+    Operation::Storage(StorageRow { what: MemWhat::Load { signed: true, reversed: false, reserve: false }, len: 2, address: Address::Displaced, update: false }), // lha
+    Operation::Storage(StorageRow { what: MemWhat::Load { signed: true, reversed: false, reserve: false }, len: 2, address: Address::Displaced, update: true }), // lhau
+    Operation::Storage(StorageRow { what: MemWhat::Store { reversed: false }, len: 2, address: Address::Displaced, update: false }), // sth
+    Operation::Storage(StorageRow { what: MemWhat::Store { reversed: false }, len: 2, address: Address::Displaced, update: true }), // sthu
+    Operation::Storage(StorageRow { what: MemWhat::Load { signed: false, reversed: false, reserve: false }, len: 8, address: Address::Displaced, update: false }), // ld
+    Operation::Storage(StorageRow { what: MemWhat::Load { signed: false, reversed: false, reserve: false }, len: 8, address: Address::Displaced, update: true }), // ldu
+    Operation::Storage(StorageRow { what: MemWhat::Load { signed: true, reversed: false, reserve: false }, len: 4, address: Address::Displaced, update: false }), // lwa
+    Operation::Storage(StorageRow { what: MemWhat::Store { reversed: false }, len: 8, address: Address::Displaced, update: false }), // std
+    Operation::Storage(StorageRow { what: MemWhat::Store { reversed: false }, len: 8, address: Address::Displaced, update: true }), // stdu
+    Operation::Storage(StorageRow { what: MemWhat::Load { signed: false, reversed: false, reserve: false }, len: 8, address: Address::Indexed, update: false }), // ldx
+    Operation::Storage(StorageRow { what: MemWhat::Load { signed: false, reversed: false, reserve: false }, len: 4, address: Address::Indexed, update: false }), // lwzx
+    Operation::Storage(StorageRow { what: MemWhat::Load { signed: false, reversed: false, reserve: false }, len: 8, address: Address::Indexed, update: true }), // ldux
+    Operation::Storage(StorageRow { what: MemWhat::Load { signed: false, reversed: false, reserve: false }, len: 4, address: Address::Indexed, update: true }), // lwzux
+    Operation::Storage(StorageRow { what: MemWhat::Load { signed: false, reversed: false, reserve: false }, len: 1, address: Address::Indexed, update: false }), // lbzx
+    Operation::Storage(StorageRow { what: MemWhat::Load { signed: false, reversed: false, reserve: false }, len: 1, address: Address::Indexed, update: true }), // lbzux
+    Operation::Storage(StorageRow { what: MemWhat::Load { signed: false, reversed: false, reserve: false }, len: 2, address: Address::Indexed, update: false }), // lhzx
+    Operation::Storage(StorageRow { what: MemWhat::Load { signed: false, reversed: false, reserve: false }, len: 2, address: Address::Indexed, update: true }), // lhzux
+    Operation::Storage(StorageRow { what: MemWhat::Load { signed: true, reversed: false, reserve: false }, len: 4, address: Address::Indexed, update: false }), // lwax
+    Operation::Storage(StorageRow { what: MemWhat::Load { signed: true, reversed: false, reserve: false }, len: 2, address: Address::Indexed, update: false }), // lhax
+    Operation::Storage(StorageRow { what: MemWhat::Load { signed: true, reversed: false, reserve: false }, len: 4, address: Address::Indexed, update: true }), // lwaux
+    Operation::Storage(StorageRow { what: MemWhat::Load { signed: true, reversed: false, reserve: false }, len: 2, address: Address::Indexed, update: true }), // lhaux
+    Operation::Storage(StorageRow { what: MemWhat::Load { signed: false, reversed: true, reserve: false }, len: 8, address: Address::Indexed, update: false }), // ldbrx
+    Operation::Storage(StorageRow { what: MemWhat::Load { signed: false, reversed: true, reserve: false }, len: 4, address: Address::Indexed, update: false }), // lwbrx
+    Operation::Storage(StorageRow { what: MemWhat::Load { signed: false, reversed: true, reserve: false }, len: 2, address: Address::Indexed, update: false }), // lhbrx
+    Operation::Storage(StorageRow { what: MemWhat::Store { reversed: false }, len: 8, address: Address::Indexed, update: false }), // stdx
+    Operation::Storage(StorageRow { what: MemWhat::Store { reversed: false }, len: 4, address: Address::Indexed, update: false }), // stwx
+    Operation::Storage(StorageRow { what: MemWhat::Store { reversed: false }, len: 8, address: Address::Indexed, update: true }), // stdux
+    Operation::Storage(StorageRow { what: MemWhat::Store { reversed: false }, len: 4, address: Address::Indexed, update: true }), // stwux
+    Operation::Storage(StorageRow { what: MemWhat::Store { reversed: false }, len: 1, address: Address::Indexed, update: false }), // stbx
+    Operation::Storage(StorageRow { what: MemWhat::Store { reversed: false }, len: 1, address: Address::Indexed, update: true }), // stbux
+    Operation::Storage(StorageRow { what: MemWhat::Store { reversed: false }, len: 2, address: Address::Indexed, update: false }), // sthx
+    Operation::Storage(StorageRow { what: MemWhat::Store { reversed: false }, len: 2, address: Address::Indexed, update: true }), // sthux
+    Operation::Storage(StorageRow { what: MemWhat::Store { reversed: true }, len: 8, address: Address::Indexed, update: false }), // stdbrx
+    Operation::Storage(StorageRow { what: MemWhat::Store { reversed: true }, len: 4, address: Address::Indexed, update: false }), // stwbrx
+    Operation::Storage(StorageRow { what: MemWhat::Store { reversed: true }, len: 2, address: Address::Indexed, update: false }), // sthbrx
+    Operation::Storage(StorageRow { what: MemWhat::Load { signed: false, reversed: false, reserve: true }, len: 4, address: Address::Indexed, update: false }), // lwarx
+    Operation::Storage(StorageRow { what: MemWhat::Load { signed: false, reversed: false, reserve: true }, len: 1, address: Address::Indexed, update: false }), // lbarx
+    Operation::Storage(StorageRow { what: MemWhat::Load { signed: false, reversed: false, reserve: true }, len: 8, address: Address::Indexed, update: false }), // ldarx
+    Operation::Storage(StorageRow { what: MemWhat::Load { signed: false, reversed: false, reserve: true }, len: 2, address: Address::Indexed, update: false }), // lharx
+    Operation::Storage(StorageRow { what: MemWhat::Conditional { reversed: false }, len: 4, address: Address::Indexed, update: false }), // stwcx.
+    Operation::Storage(StorageRow { what: MemWhat::Conditional { reversed: false }, len: 8, address: Address::Indexed, update: false }), // stdcx.
+    Operation::Storage(StorageRow { what: MemWhat::Conditional { reversed: false }, len: 1, address: Address::Indexed, update: false }), // stbcx.
+    Operation::Storage(StorageRow { what: MemWhat::Conditional { reversed: false }, len: 2, address: Address::Indexed, update: false }), // sthcx.
+    Operation::Storage(StorageRow { what: MemWhat::Load { signed: false, reversed: false, reserve: false }, len: 4, address: Address::Indexed, update: false }), // lwzcix
+    Operation::Storage(StorageRow { what: MemWhat::Load { signed: false, reversed: false, reserve: false }, len: 2, address: Address::Indexed, update: false }), // lhzcix
+    Operation::Storage(StorageRow { what: MemWhat::Load { signed: false, reversed: false, reserve: false }, len: 1, address: Address::Indexed, update: false }), // lbzcix
+    Operation::Storage(StorageRow { what: MemWhat::Load { signed: false, reversed: false, reserve: false }, len: 8, address: Address::Indexed, update: false }), // ldcix
+    Operation::Storage(StorageRow { what: MemWhat::Store { reversed: false }, len: 4, address: Address::Indexed, update: false }), // stwcix
+    Operation::Storage(StorageRow { what: MemWhat::Store { reversed: false }, len: 2, address: Address::Indexed, update: false }), // sthcix
+    Operation::Storage(StorageRow { what: MemWhat::Store { reversed: false }, len: 1, address: Address::Indexed, update: false }), // stbcix
+    Operation::Storage(StorageRow { what: MemWhat::Store { reversed: false }, len: 8, address: Address::Indexed, update: false }), // stdcix
+    Operation::Storage(StorageRow { what: MemWhat::Clean, len: 1, address: Address::Block, update: false }), // dcbst
+    Operation::Storage(StorageRow { what: MemWhat::Clean, len: 1, address: Address::Block, update: false }), // dcbf
+    Operation::Hint, // dcbtst
+    Operation::Hint, // dcbt
+    Operation::Storage(StorageRow { what: MemWhat::Icbi, len: 1, address: Address::Block, update: false }), // icbi
+    Operation::Storage(StorageRow { what: MemWhat::Zero, len: 64, address: Address::Block, update: false }), // dcbz
 ];
 
 /// What the row at a place of the instruction table does.

@@ -1,3 +1,4 @@
+use crate::memory::MemOp;
 use arrayvec::ArrayVec;
 
 /// A register that an instruction writes.
@@ -60,4 +61,6 @@ pub enum Outcome {
         /// The address of the next instruction.
         next: u64,
     },
+    /// It accesses storage.
+    Memory(MemOp),
 }

@@ -1,0 +1,289 @@
+ghost use Rattle.std.specs.Prelude.{◌≡◌, ◌<◌, ◌≤◌, ◌%◌, ◌^◌, true, replicate, if◌then◌else◌};
+ghost use Rattle.mw_bus.specs.Memory.{bytes_at, laid, number_of};
+ghost use Rattle.mw_isa.specs.Access.{IsSized, accessed, block_of, first_byte, is_aligned, is_built_access, is_exclusive, is_in_ram, is_reserved, load_number, needs_ram, ram_behind, raises_alignment, reaches_controller, real_byte, regs_behind, stored, with_gpr, with_reservation, with_success, with_update};
+ghost use Rattle.mw_isa.specs.Fetch.{real_of};
+ghost use Rattle.mw_isa.specs.State.{seen};
+
+use mw_bits::sext;
+use mw_bus::{Ram, number, number_bytes};
+use mw_isa::{MemOp, MemWhat, Regs, State};
+
+/// The real address of an effective one while translation is off.
+pub fn real(effective: u64) -> u64
+    ensures value { result ≡ real_of effective }
+    ensures bound { result < 2 ^ 60 }
+{
+    effective % 0x1000_0000_0000_0000
+}
+
+/// The effective address of the first byte: that of the aligned block for zeros.
+fn first(op: &MemOp) -> u64
+    ensures { result ≡ first_byte op.now }
+{
+    match op.what {
+        MemWhat::Zero => op.ea - op.ea % 64,
+        MemWhat::Load { .. } => op.ea,
+        MemWhat::Store { .. } => op.ea,
+        MemWhat::Conditional { .. } => op.ea,
+        MemWhat::Clean => op.ea,
+        MemWhat::Icbi => op.ea,
+    }
+}
+
+/// The real address of the first byte.
+fn start(op: &MemOp) -> u64
+    ensures value { result ≡ real_byte op.now }
+    ensures bound { result < 2 ^ 60 }
+{
+    real(first(op))
+}
+
+/// Whether all bytes lie in RAM.
+fn lies_in_ram(op: &MemOp) -> bool
+    ensures { result ≡ is_in_ram op.now }
+{
+    start(op) + u64::from(op.len) <= 16777216
+}
+
+/// Whether the address is a multiple of the length.
+fn is_multiple(op: &MemOp) -> bool
+    requires { 1 ≤ op.now.len }
+    ensures { result ≡ is_aligned op.now }
+{
+    op.ea % u64::from(op.len) == 0
+}
+
+/// Whether an access reserves its block, or stores where it is reserved.
+fn reserves(what: MemWhat) -> bool
+    ensures { result ≡ is_exclusive what }
+{
+    match what {
+        MemWhat::Load { reserve, .. } => reserve,
+        MemWhat::Conditional { .. } => true,
+        MemWhat::Store { .. } => false,
+        MemWhat::Zero => false,
+        MemWhat::Clean => false,
+        MemWhat::Icbi => false,
+    }
+}
+
+/// Whether an access isn't allowed outside RAM.
+fn wants_ram(what: MemWhat) -> bool
+    ensures { result ≡ needs_ram what }
+{
+    match what {
+        MemWhat::Zero => true,
+        MemWhat::Load { reserve, .. } => reserve,
+        MemWhat::Conditional { .. } => true,
+        MemWhat::Store { .. } => false,
+        MemWhat::Clean => false,
+        MemWhat::Icbi => false,
+    }
+}
+
+/// Whether the access raises an alignment interrupt.
+fn is_misaligned(op: &MemOp) -> bool
+    requires { 1 ≤ op.now.len }
+    ensures { result ≡ raises_alignment op.now }
+{
+    (reserves(op.what) && !is_multiple(op))
+        || (!lies_in_ram(op) && (!is_multiple(op) || wants_ram(op.what)))
+}
+
+/// Whether a byte lies in the interrupt controller.
+fn meets_controller(op: &MemOp) -> bool
+    ensures { result ≡ reaches_controller op.now }
+{
+    start(op) < 0xC000_6000 && 0xC000_4000 < start(op) + u64::from(op.len)
+}
+
+/// Whether the access is built: it raises no interrupt, and doesn't reach the interrupt controller.
+pub fn can_access(op: &MemOp) -> bool
+    requires { 1 ≤ op.now.len }
+    ensures { result ≡ is_built_access op.now }
+{
+    !is_misaligned(op) && !meets_controller(op)
+}
+
+/// The number that the bytes hold.
+fn number_there(reversed: bool, op: &MemOp, ram: &Ram) -> u64
+    requires some { 1 ≤ op.now.len }
+    requires few { op.now.len ≤ 8 }
+    ensures { result ≡ number_of reversed op.now.len (bytes_at ram.now (real_byte op.now) op.now.len) }
+{
+    let len = usize::from(op.len);
+    let bytes = ram.read(start(op), len);
+    number(reversed, &bytes[..len])
+}
+
+/// The number that a load gives.
+fn load(signed: bool, reversed: bool, op: &MemOp, ram: &Ram) -> u64
+    requires some { 1 ≤ op.now.len }
+    requires few { op.now.len ≤ 8 }
+    ensures { result ≡ load_number signed reversed op.now ram.now }
+{
+    let loaded = number_there(reversed, op, ram);
+    if signed {
+        sext(loaded, 8 * u32::from(op.len))
+    } else {
+        loaded
+    }
+}
+
+/// The low bytes of a number.
+fn low(value: u64, len: u8) -> u64
+    requires some { 1 ≤ len }
+    requires few { len ≤ 8 }
+    ensures { result ≡ value % 256 ^ len }
+{
+    match len {
+        1 => value % 0x100,
+        2 => value % 0x1_0000,
+        3 => value % 0x100_0000,
+        4 => value % 0x1_0000_0000,
+        5 => value % 0x100_0000_0000,
+        6 => value % 0x1_0000_0000_0000,
+        7 => value % 0x100_0000_0000_0000,
+        _ => value,
+    }
+}
+
+/// Stores the low bytes of the register.
+fn store(reversed: bool, op: &MemOp, ram: &mut Ram)
+    requires some { 1 ≤ op.now.len }
+    requires few { op.now.len ≤ 8 }
+    ensures { ram.new ≡ stored reversed op.now ram.old }
+{
+    let len = usize::from(op.len);
+    let bytes = number_bytes(reversed, len, low(op.value, op.len));
+    ram.write(start(op), &bytes[..len]);
+}
+
+/// The number of the block that the access lies in.
+fn block(op: &MemOp) -> u64
+    ensures { result ≡ block_of op.now }
+{
+    start(op) / 64
+}
+
+/// Whether a reservation stands for the block.
+fn holds(op: &MemOp, reserve: Option<u32>) -> bool
+    ensures { result ≡ is_reserved op.now reserve }
+{
+    match reserve {
+        None => false,
+        Some(reserved) => u64::from(reserved) == block(op),
+    }
+}
+
+/// Sets a general purpose register.
+pub fn set_gpr(regs: &mut Regs, number: u8, value: u64)
+    ensures { regs.new ≡ with_gpr regs.old number value }
+{
+    if number < 32 {
+        regs.gpr[number as usize] = value;
+    }
+}
+
+/// Puts the effective address into RA, where the access updates it.
+fn update(op: &MemOp, regs: &mut Regs)
+    ensures { regs.new ≡ with_update op.now regs.old }
+{
+    if let Some(number) = op.update {
+        set_gpr(regs, number, op.ea);
+    }
+}
+
+/// Reserves the block of an access that reserves.
+fn reserve_block(reserve: bool, op: &MemOp, regs: &mut Regs)
+    requires { reserve ≡ true → block_of op.now < 2 ^ 32 }
+    ensures { regs.new ≡ with_reservation reserve op.now regs.old }
+{
+    if reserve {
+        regs.reserve = Some(block(op) as u32);
+    }
+}
+
+/// Says in CR field 0 whether a store-conditional stored, and ends the reservation.
+fn conclude(success: bool, regs: &mut Regs)
+    ensures { regs.new ≡ with_success success regs.old }
+{
+    let stored = if success { 2 } else { 0 };
+    let overflow = (regs.xer >> 31) % 2;
+    regs.cr = regs.cr % 0x1000_0000 + ((stored + overflow as u32) << 28);
+    regs.reserve = None;
+}
+
+/// Loads.
+#[tactic(auto, unfolding(mw_isa::specs::Access::accessed))]
+fn load_into(signed: bool, reversed: bool, reserve: bool, op: &MemOp, state: &mut State)
+    requires some { 1 ≤ op.now.len }
+    requires few { op.now.len ≤ 8 }
+    requires block { reserve ≡ true → block_of op.now < 2 ^ 32 }
+    ensures { seen state.new ≡ record (seen state.old) { regs = regs_behind (MemWhat.Load signed reversed reserve) op.now (seen state.old) } }
+{
+    let loaded = load(signed, reversed, op, &state.ram);
+    set_gpr(&mut state.regs, op.to, loaded);
+    update(op, &mut state.regs);
+    reserve_block(reserve, op, &mut state.regs);
+}
+
+/// Stores.
+fn store_from(reversed: bool, op: &MemOp, state: &mut State)
+    requires some { 1 ≤ op.now.len }
+    requires few { op.now.len ≤ 8 }
+    ensures { seen state.new ≡ record (seen state.old) { regs = regs_behind (MemWhat.Store reversed) op.now (seen state.old); ram = ram_behind (MemWhat.Store reversed) op.now (seen state.old) } }
+{
+    store(reversed, op, &mut state.ram);
+    update(op, &mut state.regs);
+}
+
+/// Stores, where that is so.
+fn store_where(success: bool, reversed: bool, op: &MemOp, ram: &mut Ram)
+    requires some { 1 ≤ op.now.len }
+    requires few { op.now.len ≤ 8 }
+    ensures { ram.new ≡ (if success then stored reversed op.now ram.old else ram.old) }
+{
+    if success {
+        store(reversed, op, ram);
+    }
+}
+
+/// Stores where the block is reserved.
+fn store_if_reserved(reversed: bool, op: &MemOp, state: &mut State)
+    requires some { 1 ≤ op.now.len }
+    requires few { op.now.len ≤ 8 }
+    ensures { seen state.new ≡ record (seen state.old) { regs = regs_behind (MemWhat.Conditional reversed) op.now (seen state.old); ram = ram_behind (MemWhat.Conditional reversed) op.now (seen state.old) } }
+{
+    let success = holds(op, state.regs.reserve);
+    store_where(success, reversed, op, &mut state.ram);
+    conclude(success, &mut state.regs);
+}
+
+/// Stores zeros over the block.
+fn zero_block(op: &MemOp, ram: &mut Ram)
+    ensures { ram.new ≡ laid ram.old (real_byte op.now) (replicate 64 0) }
+{
+    ram.write(start(op), &[0; 64]);
+}
+
+/// Carries out an access that is built.
+#[tactic(auto, unfolding(mw_isa::specs::Access::accessed))]
+pub fn access(op: &MemOp, state: &mut State)
+    requires sized { IsSized op.now }
+    requires built { is_built_access op.now ≡ true }
+    ensures { seen state.new ≡ accessed op.now (seen state.old) }
+{
+    match op.what {
+        MemWhat::Load {
+            signed,
+            reversed,
+            reserve,
+        } => load_into(signed, reversed, reserve, op, state),
+        MemWhat::Store { reversed } => store_from(reversed, op, state),
+        MemWhat::Conditional { reversed } => store_if_reserved(reversed, op, state),
+        MemWhat::Zero => zero_block(op, &mut state.ram),
+        MemWhat::Clean => {}
+        MemWhat::Icbi => {}
+    }
+}

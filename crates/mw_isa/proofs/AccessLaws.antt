@@ -1,0 +1,64 @@
+-- What is known of an access of one of its lengths.
+use Rattle.std.proofs.Common.{◌≡◌, ℕ, zero, suc, ◌+◌, ◌<◌, ◌≤◌, Bool, true, false, ◌&&◌, ◌||◌, ◌==◌, ◌⊎◌, inl, inr, List, [], ◌∷◌, Option, Some, None, slice_get, refl, sym, ap, ◌∙◌, subst, arith}
+use Rattle.std.proofs.lemmas.Bool.Decides.{nat_tests}
+use Rattle.mw_isa.specs.declared.memory.MemWhat.{MemWhat}
+use Rattle.mw_isa.specs.declared.memory.MemWhat.TheVariants.{Load, Store, Conditional, Zero, Clean, Icbi}
+use Rattle.mw_isa.specs.declared.memory.MemOp.{MemOp}
+use Rattle.mw_isa.specs.declared.operation.Operation.{Operation}
+use Rattle.mw_isa.specs.declared.operation.Operation.TheVariants.{Adder, Logic, Branch, Storage, Hint}
+use Rattle.mw_isa.specs.declared.operation.StorageRow.{StorageRow}
+use Rattle.mw_isa.specs.Operations.{operations}
+use Rattle.mw_isa.specs.Access.{is_sized_by}
+
+-- the length of an operation's access, if it has one, is one of its lengths
+abbrev sized_operation : Operation → Bool
+sized_operation (Adder row) = true
+sized_operation (Logic row) = true
+sized_operation (Branch row) = true
+sized_operation (Storage row) = is_sized_by row.what row.len
+sized_operation Hint = true
+
+-- so it is of each operation
+abbrev all_sized : List Operation → Bool
+all_sized [] = true
+all_sized (operation ∷ others) = sized_operation operation && all_sized others
+
+operations-sized : all_sized operations ≡ true
+unfolding operations
+operations-sized = refl
+
+-- the first of two tests that hold
+first_holds : (a b : Bool) → (a && b) ≡ true → a ≡ true
+first_holds true b e = refl
+first_holds false b e = e
+
+-- and the second
+second_holds : (a b : Bool) → (a && b) ≡ true → b ≡ true
+second_holds true b e = e
+second_holds false b e = cc
+
+-- what holds of all holds at each place
+sized-at : (list : List Operation) (place : ℕ) (operation : Operation) → all_sized list ≡ true → slice_get list place ≡ Some operation → sized_operation operation ≡ true
+sized-at [] place operation all e = cc
+sized-at (first ∷ others) zero operation all e =
+    let same : first ≡ operation = cc in
+    ap sized_operation (sym same) ∙ first_holds (sized_operation first) (all_sized others) all
+sized-at (first ∷ others) (suc place) operation all e =
+    sized-at others place operation (second_holds (sized_operation first) (all_sized others) all) e
+
+-- a row that accesses storage has one of its lengths
+pub storage-sized : (place : ℕ) (row : StorageRow) → slice_get operations place ≡ Some (Storage row) → is_sized_by row.what row.len ≡ true
+storage-sized place row e = sized-at operations place (Storage row) operations-sized e
+
+-- one of the lengths of a load or a store
+four_lengths : (len : ℕ) → ((len == 1 || len == 2) || (len == 4 || len == 8)) ≡ true → (1 ≤ len) × (len ≤ 8)
+four_lengths len e = (grind (arith, nat_tests), grind (arith, nat_tests))
+
+-- an access has a byte or more, and at most 64
+pub sized-some : (what : MemWhat) (len : ℕ) → is_sized_by what len ≡ true → (1 ≤ len) × (len ≤ 64)
+sized-some (Load signed reversed reserve) len e = let f = four_lengths len e in (f.0, omega (arith, f.1))
+sized-some (Store reversed) len e = let f = four_lengths len e in (f.0, omega (arith, f.1))
+sized-some (Conditional reversed) len e = let f = four_lengths len e in (f.0, omega (arith, f.1))
+sized-some Zero len e = (grind (arith, nat_tests), grind (arith, nat_tests))
+sized-some Clean len e = (grind (arith, nat_tests), grind (arith, nat_tests))
+sized-some Icbi len e = (grind (arith, nat_tests), grind (arith, nat_tests))

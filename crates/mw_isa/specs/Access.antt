@@ -1,0 +1,179 @@
+-- An access to storage in real mode (Book I, storage operands; Book II, atomic update, cache management and the
+-- reservation; Book III, real addressing and alignment).
+use Rattle.std.specs.Prelude.{ℕ, ◌≡◌, ◌+◌, ◌-◌, ◌*◌, ◌/◌, ◌%◌, ◌^◌, ◌==◌, Bool, true, false, not, ◌&&◌, ◌||◌, if◌then◌else◌, nat_lt, nat_le, List, [], ◌∷◌, ◌++◌, replicate, Option, Some, None, slice_set}
+use Rattle.std.specs.Option.{option_map_or}
+use Rattle.mw_bits.specs.Fields.{sext_of}
+use Rattle.mw_bus.specs.Memory.{bytes_at, laid, number_of, bytes_of}
+use Rattle.mw_isa.specs.declared.access.Kind.{Kind}
+use Rattle.mw_isa.specs.declared.access.Kind.TheVariants.{Load as Loads, Store as Stores}
+use Rattle.mw_isa.specs.declared.access.Touch.{Touch}
+use Rattle.mw_isa.specs.declared.access.Span.{Span}
+use Rattle.mw_isa.specs.declared.access.Deed.{Deed}
+use Rattle.mw_isa.specs.declared.access.Deed.TheVariants.{Plain, Store as StoreDeed, Icbi as IcbiDeed}
+use Rattle.mw_isa.specs.declared.memory.MemWhat.{MemWhat}
+use Rattle.mw_isa.specs.declared.memory.MemWhat.TheVariants.{Load, Store, Conditional, Zero, Clean, Icbi}
+use Rattle.mw_isa.specs.declared.memory.MemOp.{MemOp}
+use Rattle.mw_isa.specs.declared.outcome.Outcome.{Outcome}
+use Rattle.mw_isa.specs.declared.outcome.Outcome.TheVariants.{Done, Memory}
+use Rattle.mw_isa.specs.declared.regs.Regs.{Regs}
+use Rattle.mw_isa.specs.State.{State}
+use Rattle.mw_isa.specs.Fetch.{real_of}
+
+-- the lengths that an access can have: 1, 2, 4 or 8 bytes; 64 for zeros, and 1 where nothing is loaded or stored
+abbrev pub is_sized_by : MemWhat → ℕ → Bool
+is_sized_by Zero len = len == 64
+is_sized_by Clean len = len == 1
+is_sized_by Icbi len = len == 1
+is_sized_by what len = (len == 1 || len == 2) || (len == 4 || len == 8)
+
+-- an access of one of its lengths
+abbrev pub IsSized : MemOp → Type 0
+IsSized op = is_sized_by op.what op.len ≡ true
+
+-- a fact on the access, where an outcome is one
+abbrev pub OnMemory : (MemOp → Type 0) → Outcome → Type 0
+OnMemory P (Done targets next) = Unit {0}
+OnMemory P (Memory op) = P op
+
+-- the effective address of the first byte: that of the aligned block for zeros
+abbrev pub first_of : MemOp → MemWhat → ℕ
+first_of op Zero = op.ea - op.ea % 64
+first_of op what = op.ea
+
+-- the effective address of an access's first byte
+abbrev pub first_byte : MemOp → ℕ
+first_byte op = first_of op op.what
+
+-- its real address
+abbrev pub real_byte : MemOp → ℕ
+real_byte op = real_of (first_byte op)
+
+-- all bytes lie in RAM
+abbrev pub is_in_ram : MemOp → Bool
+is_in_ram op = nat_le (real_byte op + op.len) 16777216
+
+-- the address is a multiple of the length
+abbrev pub is_aligned : MemOp → Bool
+is_aligned op = op.ea % op.len == 0
+
+-- the access reserves its block, or stores where it is reserved
+abbrev pub is_exclusive : MemWhat → Bool
+is_exclusive (Load signed reversed reserve) = reserve
+is_exclusive (Conditional reversed) = true
+is_exclusive what = false
+
+-- outside RAM the access isn't allowed
+abbrev pub needs_ram : MemWhat → Bool
+needs_ram Zero = true
+needs_ram what = is_exclusive what
+
+-- an alignment interrupt: an exclusive access whose address isn't a multiple of its length, or one with a byte outside
+-- RAM that isn't aligned or needs RAM
+abbrev pub raises_alignment : MemOp → Bool
+raises_alignment op = (is_exclusive op.what && not (is_aligned op)) || (not (is_in_ram op) && (not (is_aligned op) || needs_ram op.what))
+
+-- a byte lies in the interrupt controller, from 0xC0004000 to 0xC0005FFF
+abbrev pub reaches_controller : MemOp → Bool
+reaches_controller op = nat_lt (real_byte op) 0xC000_6000 && nat_lt 0xC000_4000 (real_byte op + op.len)
+
+-- an access that is built: it raises no interrupt, and doesn't reach the interrupt controller
+abbrev pub is_built_access : MemOp → Bool
+is_built_access op = not (raises_alignment op) && not (reaches_controller op)
+
+-- the number of the real 64-byte block that an access lies in
+abbrev pub block_of : MemOp → ℕ
+block_of op = real_byte op / 64
+
+-- a general purpose register with a new content
+abbrev pub with_gpr : Regs → ℕ → ℕ → Regs
+with_gpr regs n value = record regs { gpr = slice_set regs.gpr n value }
+
+-- RA ← EA with update
+abbrev pub with_update : MemOp → Regs → Regs
+with_update op regs = option_map_or (λ n. with_gpr regs n op.ea) op.update regs
+
+-- the block is reserved
+abbrev pub with_reservation : Bool → MemOp → Regs → Regs
+with_reservation reserve op regs = if reserve then record regs { reserve = Some (block_of op) } else regs
+
+-- a number of so many bytes, extended to 64 bits with its sign or with zeros
+abbrev pub extended : Bool → ℕ → ℕ → ℕ
+extended signed len number = if signed then sext_of number (8 * len) else number
+
+-- the number that a load gives: RAM's bytes, or all ones where RAM isn't
+abbrev pub load_number : Bool → Bool → MemOp → List ℕ → ℕ
+load_number signed reversed op ram = extended signed op.len (number_of reversed op.len (bytes_at ram (real_byte op) op.len))
+
+-- the bytes that a store writes: the low bytes of the register
+abbrev pub store_bytes : Bool → MemOp → List ℕ
+store_bytes reversed op = bytes_of reversed op.len (op.value % 256 ^ op.len)
+
+-- RAM behind a store; a byte where RAM isn't vanishes
+abbrev pub stored : Bool → MemOp → List ℕ → List ℕ
+stored reversed op ram = laid ram (real_byte op) (store_bytes reversed op)
+
+-- a reservation stands for the block
+abbrev pub is_reserved : MemOp → Option ℕ → Bool
+is_reserved op None = false
+is_reserved op (Some block) = block == block_of op
+
+-- CR field 0 of a store-conditional: 0, 0, whether it stored, and SO
+abbrev pub with_success : Bool → Regs → Regs
+with_success success regs = record regs { cr = regs.cr % 2 ^ 28 + ((if success then 2 else 0) + regs.xer / 2 ^ 31 % 2) * 2 ^ 28; reserve = None }
+
+-- what an access makes of the registers
+abbrev pub regs_behind : MemWhat → MemOp → State → Regs
+regs_behind (Load signed reversed reserve) op state = with_reservation reserve op (with_update op (with_gpr state.regs op.to (load_number signed reversed op state.ram)))
+regs_behind (Store reversed) op state = with_update op state.regs
+regs_behind (Conditional reversed) op state = with_success (is_reserved op state.regs.reserve) state.regs
+regs_behind Zero op state = state.regs
+regs_behind Clean op state = state.regs
+regs_behind Icbi op state = state.regs
+
+-- and of RAM
+abbrev pub ram_behind : MemWhat → MemOp → State → List ℕ
+ram_behind (Load signed reversed reserve) op state = state.ram
+ram_behind (Store reversed) op state = stored reversed op state.ram
+ram_behind (Conditional reversed) op state = if is_reserved op state.regs.reserve then stored reversed op state.ram else state.ram
+ram_behind Zero op state = laid state.ram (real_byte op) (replicate 64 0)
+ram_behind Clean op state = state.ram
+ram_behind Icbi op state = state.ram
+
+-- the state behind an access, at the same instruction
+unfoldable pub accessed : MemOp → State → State
+accessed op state = record state { regs = regs_behind op.what op state; ram = ram_behind op.what op state }
+
+-- how many bytes lie in the first page
+abbrev pub in_page : ℕ → ℕ → ℕ
+in_page first len = if nat_le (first % 4096 + len) 4096 then len else 4096 - first % 4096
+
+-- what an access is for
+abbrev pub kind_of : MemWhat → Kind
+kind_of (Load signed reversed reserve) = Loads
+kind_of Clean = Loads
+kind_of Icbi = Loads
+kind_of what = Stores
+
+-- the pages of an access, each with its first byte there
+abbrev pub touches_by : Kind → ℕ → ℕ → List Touch
+touches_by kind first len = record { kind = kind; ea = first } ∷ (if in_page first len == len then [] else record { kind = kind; ea = (first + in_page first len) % 2 ^ 64 } ∷ [])
+
+-- the accesses to data, in order
+abbrev pub touches_of : MemOp → List Touch
+touches_of op = touches_by (kind_of op.what) (first_byte op) op.len
+
+-- the stretches of RAM that a store touches, one a page
+abbrev pub spans_by : ℕ → ℕ → List Span
+spans_by at len = record { at = at; len = in_page at len } ∷ (if in_page at len == len then [] else record { at = at + in_page at len; len = len - in_page at len } ∷ [])
+
+-- a store to RAM touches its stretches; one where RAM isn't does nothing
+abbrev pub store_deed : MemOp → Deed
+store_deed op = if is_in_ram op then StoreDeed (record { items = spans_by (real_byte op) op.len }) else Plain
+
+-- what an access does to changed code
+abbrev pub deed_by : MemWhat → MemOp → State → Deed
+deed_by (Store reversed) op state = store_deed op
+deed_by (Conditional reversed) op state = if is_reserved op state.regs.reserve then store_deed op else Plain
+deed_by Zero op state = store_deed op
+deed_by Icbi op state = if is_in_ram op then IcbiDeed (block_of op) else Plain
+deed_by what op state = Plain
