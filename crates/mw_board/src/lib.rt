@@ -10,4 +10,6 @@ pub use run::{Run, RunFault};
 pub use simulation::simulate;
 
 #[cfg(test)]
+mod storage_tests;
+#[cfg(test)]
 mod tests;
