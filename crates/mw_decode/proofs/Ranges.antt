@@ -1,6 +1,7 @@
 -- What is known of an instruction of the table, for the crates that carry it out.
-use Rattle.std.proofs.Common.{◌≡◌, ℕ, zero, suc, ◌+◌, ◌-◌, ◌*◌, ◌%◌, ◌<◌, ◌≤◌, ◌^◌, true, false, cond, List, [], ◌∷◌, Some, Option, length, slice_get, ℤ, pos, negsuc, neg_ℤ, ◌-ℤ◌, ◌≤ℤ◌, ◌<ℤ◌, nat_lt, IsSomeAnd, refl, ap, ◌∙◌, subst, lit≤, inl, inr, arith}
+use Rattle.std.proofs.Common.{◌≡◌, ℕ, zero, suc, ◌+◌, ◌-◌, ◌*◌, ◌%◌, ◌<◌, ◌≤◌, ◌^◌, true, false, cond, List, [], ◌∷◌, Some, Option, length, slice_get, ℤ, pos, negsuc, neg_ℤ, ◌-ℤ◌, ◌≤ℤ◌, ◌<ℤ◌, nat_lt, IsSomeAnd, refl, sym, ap, ◌∙◌, subst, lit≤, inl, inr, arith}
 use Rattle.std.specs.Int.{w64, cast_signed, cast_unsigned}
+use Rattle.std.specs.Option.{option_map_or}
 use Rattle.std.proofs.lemmas.Int.{ints, of_z-to_z, to_z_pos}
 use Rattle.std.proofs.lemmas.Bool.{cases_lt, lt-ltb, le-ltb, cond-true, cond-false, cond_both}
 use Rattle.std.proofs.Math.Nat.{mod-eq_of_lt}
@@ -9,11 +10,13 @@ use Rattle.std.proofs.lemmas.Nat.{shl_below, pow-add, pow_pos, mod_below}
 use Rattle.mw_bits.specs.Fields.{sext_of}
 use Rattle.mw_decode.specs.declared.layout.Field.{Field}
 use Rattle.mw_decode.specs.declared.layout.Layout.{Layout}
-use Rattle.mw_decode.specs.declared.layout.Layout.TheVariants.{DRtRaSi, DRaRsUi, ITarget, XoRtRaRb}
+use Rattle.mw_decode.specs.declared.layout.Layout.TheVariants.{DRtRaSi, DRaRsUi, DRtDRa, DRsDRa, DsRtDRa, DsRsDRa, ITarget, XRtRaRb, XRsRaRb, XRaRb, XoRtRaRb}
 use Rattle.mw_decode.specs.declared.insn.Insn.{Insn}
 use Rattle.mw_decode.specs.Row.{TableRow}
 use Rattle.mw_decode.specs.Rows.{table, row_count}
-use Rattle.mw_decode.specs.Fields.{layouts, fields_of, width_of, register, si, ui, li, operand_from, operand_at, InRange, HasOperands, IsRegister, IsUnsigned, IsSigned}
+use Rattle.mw_decode.specs.Fields.{layouts, fields_of, width_of, register, si, ui, d, ds, li, operand_from, operand_at, InRange, HasOperands, IsRegister, IsUnsigned, IsSigned}
+use Rattle.mw_decode.specs.declared.rule.Rule.{Rule}
+use Rattle.mw_decode.specs.Rules.{row_rules, is_illegal}
 use Rattle.mw_decode.specs.Decode.{IsInsn, HasForms}
 use Rattle.mw_decode.proofs.OperandLemmas.{operand_from-unsigned, operand_from-signed}
 
@@ -29,6 +32,11 @@ IsInsn-operands insn place layout is at there =
 pub IsInsn-forms : (insn : Insn) (place : ℕ) (row : TableRow) → IsInsn insn → insn.row ≡ place → slice_get table place ≡ Some row → HasForms row insn
 IsInsn-forms insn place row is at there =
     at_value (slice_get table insn.row) row (λ r. HasForms r insn) (ap (slice_get table) at ∙ there) is.forms
+
+-- its row does not forbid its operands
+pub IsInsn-legal : (insn : Insn) (place : ℕ) (rule : Rule) → IsInsn insn → insn.row ≡ place → slice_get row_rules place ≡ Some rule → is_illegal rule insn.ops.items ≡ false
+IsInsn-legal insn place rule is at there =
+    sym (ap (λ (o : Option Rule). option_map_or (λ r. is_illegal r insn.ops.items) o false) (ap (slice_get row_rules) at ∙ there)) ∙ is.legal
 
 in_list : {X : Type 0} (xs : List X) (i : ℕ) (P : X → Type 0) → IsSomeAnd (slice_get xs i) P → i < length xs
 in_list [] i P h = absurd h
@@ -120,6 +128,22 @@ DRtRaSi-operands ops has = (has.0, InRange-register 6 _ has.1.0, InRange-registe
 pub DRaRsUi-operands : (ops : List ℤ) → HasOperands (fields_of DRaRsUi) ops → (length ops ≡ 3) × IsRegister (operand_at ops 0) × IsRegister (operand_at ops 1) × IsUnsigned 16 (operand_at ops 2)
 DRaRsUi-operands ops has = (has.0, InRange-register 11 _ has.1.0, InRange-register 6 _ has.1.1.0, InRange-unsigned ui _ refl refl has.1.1.1.0)
 
+-- RT,D(RA) in the form D
+pub DRtDRa-operands : (ops : List ℤ) → HasOperands (fields_of DRtDRa) ops → (length ops ≡ 3) × IsRegister (operand_at ops 0) × IsSigned 16 (operand_at ops 1) × IsRegister (operand_at ops 2)
+DRtDRa-operands ops has = (has.0, InRange-register 6 _ has.1.0, InRange-signed d _ refl (lit≤ tt) has.1.1.0, InRange-register 11 _ has.1.1.1.0)
+
+-- RS,D(RA) in the form D
+pub DRsDRa-operands : (ops : List ℤ) → HasOperands (fields_of DRsDRa) ops → (length ops ≡ 3) × IsRegister (operand_at ops 0) × IsSigned 16 (operand_at ops 1) × IsRegister (operand_at ops 2)
+DRsDRa-operands ops has = DRtDRa-operands ops has
+
+-- RT,D(RA) in the form DS
+pub DsRtDRa-operands : (ops : List ℤ) → HasOperands (fields_of DsRtDRa) ops → (length ops ≡ 3) × IsRegister (operand_at ops 0) × IsSigned 16 (operand_at ops 1) × IsRegister (operand_at ops 2)
+DsRtDRa-operands ops has = (has.0, InRange-register 6 _ has.1.0, InRange-signed ds _ refl (lit≤ tt) has.1.1.0, InRange-register 11 _ has.1.1.1.0)
+
+-- RS,D(RA) in the form DS
+pub DsRsDRa-operands : (ops : List ℤ) → HasOperands (fields_of DsRsDRa) ops → (length ops ≡ 3) × IsRegister (operand_at ops 0) × IsSigned 16 (operand_at ops 1) × IsRegister (operand_at ops 2)
+DsRsDRa-operands ops has = DsRtDRa-operands ops has
+
 -- the target in the form I
 pub ITarget-operands : (ops : List ℤ) → HasOperands (fields_of ITarget) ops → (length ops ≡ 1) × IsSigned 26 (operand_at ops 0)
 ITarget-operands ops has = (has.0, InRange-signed li _ refl (lit≤ tt) has.1.0)
@@ -128,11 +152,29 @@ ITarget-operands ops has = (has.0, InRange-signed li _ refl (lit≤ tt) has.1.0)
 pub XoRtRaRb-operands : (ops : List ℤ) → HasOperands (fields_of XoRtRaRb) ops → (length ops ≡ 3) × IsRegister (operand_at ops 0) × IsRegister (operand_at ops 1) × IsRegister (operand_at ops 2)
 XoRtRaRb-operands ops has = (has.0, InRange-register 6 _ has.1.0, InRange-register 11 _ has.1.1.0, InRange-register 16 _ has.1.1.1.0)
 
--- a list of one operand, and of three
+-- RT,RA,RB in the form X
+pub XRtRaRb-operands : (ops : List ℤ) → HasOperands (fields_of XRtRaRb) ops → (length ops ≡ 3) × IsRegister (operand_at ops 0) × IsRegister (operand_at ops 1) × IsRegister (operand_at ops 2)
+XRtRaRb-operands ops has = XoRtRaRb-operands ops has
+
+-- RS,RA,RB in the form X
+pub XRsRaRb-operands : (ops : List ℤ) → HasOperands (fields_of XRsRaRb) ops → (length ops ≡ 3) × IsRegister (operand_at ops 0) × IsRegister (operand_at ops 1) × IsRegister (operand_at ops 2)
+XRsRaRb-operands ops has = XoRtRaRb-operands ops has
+
+-- RA,RB in the form X
+pub XRaRb-operands : (ops : List ℤ) → HasOperands (fields_of XRaRb) ops → (length ops ≡ 2) × IsRegister (operand_at ops 0) × IsRegister (operand_at ops 1)
+XRaRb-operands ops has = (has.0, InRange-register 11 _ has.1.0, InRange-register 16 _ has.1.1.0)
+
+-- a list of one operand, of two and of three
 pub one-operand : (ops : List ℤ) → length ops ≡ 1 → ops ≡ operand_at ops 0 ∷ []
 one-operand [] count = cc
 one-operand (a ∷ []) count = refl
 one-operand (a ∷ b ∷ rest) count = absurd (omega arith)
+
+pub two-operands : (ops : List ℤ) → length ops ≡ 2 → ops ≡ operand_at ops 0 ∷ operand_at ops 1 ∷ []
+two-operands [] count = absurd (omega arith)
+two-operands (a ∷ []) count = absurd (omega arith)
+two-operands (a ∷ b ∷ []) count = refl
+two-operands (a ∷ b ∷ c ∷ rest) count = absurd (omega arith)
 
 pub three-operands : (ops : List ℤ) → length ops ≡ 3 → ops ≡ operand_at ops 0 ∷ operand_at ops 1 ∷ operand_at ops 2 ∷ []
 three-operands [] count = absurd (omega arith)

@@ -1,5 +1,5 @@
 -- What a word is: the row that matches, with its operands (Book I, instruction formats).
-use Rattle.std.specs.Prelude.{ℕ, ◌+◌, ◌≡◌, ◌==◌, Bool, true, ◌&&◌, Option, Some, None, IsSomeAnd, slice_get}
+use Rattle.std.specs.Prelude.{ℕ, ◌+◌, ◌≡◌, ◌==◌, Bool, true, false, ◌&&◌, if◌then◌else◌, Option, Some, None, IsSomeAnd, slice_get}
 use Rattle.std.specs.List.{position_from}
 use Rattle.mw_bits.specs.Fields.{field_of}
 use Rattle.mw_decode.specs.declared.layout.Layout.{Layout}
@@ -9,6 +9,7 @@ use Rattle.mw_decode.specs.declared.insn.Decoded.TheVariants.{Insn as Is, Illega
 use Rattle.mw_decode.specs.Row.{TableRow, matches}
 use Rattle.mw_decode.specs.Rows.{table}
 use Rattle.mw_decode.specs.Fields.{fields_of, layouts, operands_in, HasOperands}
+use Rattle.mw_decode.specs.Rules.{is_illegal_form}
 
 -- the primary opcode of a word
 abbrev pub opcode_of : ℕ → ℕ
@@ -37,13 +38,17 @@ insn_of word place row layout = record {
   lk = row.links && is_set word 31;
 }
 
+-- an instruction, but illegal where its row has no such form
+abbrev pub unless_illegal : Insn → Decoded
+unless_illegal insn = if is_illegal_form insn.row insn.ops.items then Illegal else Is insn
+
 -- the instruction at this place of the table; the cases without a row are never met
 abbrev pub decoded_by : ℕ → ℕ → Option TableRow → Option Layout → Decoded
-decoded_by word place (Some row) (Some layout) = Is (insn_of word place row layout)
+decoded_by word place (Some row) (Some layout) = unless_illegal (insn_of word place row layout)
 decoded_by word place (Some row) None = Illegal
 decoded_by word place None layout = Illegal
 
--- an instruction where a row matches, illegal otherwise
+-- the instruction of the row that matches, illegal where none does
 abbrev pub decoded_at : ℕ → Option ℕ → Decoded
 decoded_at word None = Illegal
 decoded_at word (Some place) = decoded_by word place (slice_get table place) (slice_get layouts place)
@@ -57,10 +62,11 @@ decode_of word (Some suffix) = Illegal
 abbrev pub HasForms : TableRow → Insn → Type 0
 HasForms row insn = (insn.oe ≡ true → row.oe ≡ true) × (insn.rc ≡ true → row.rc ≡ true) × (insn.aa ≡ true → row.absolute ≡ true) × (insn.lk ≡ true → row.links ≡ true)
 
--- an instruction of the table: its operands are in range, and its row has its forms
+-- an instruction of the table: its row has its forms, its operands are in range, and they are no illegal form
 pub record IsInsn (insn : Insn) : Type 0 where
   pub forms : IsSomeAnd (slice_get table insn.row) (λ row. HasForms row insn)
   pub operands : IsSomeAnd (slice_get layouts insn.row) (λ layout. HasOperands (fields_of layout) insn.ops.items)
+  pub legal : is_illegal_form insn.row insn.ops.items ≡ false
 
 -- a fact on the instruction, where a word is one
 abbrev pub OnInsn : (Insn → Type 0) → Decoded → Type 0

@@ -5,7 +5,7 @@ use Rattle.std.specs.Int.{w64, cast_signed}
 use Rattle.mw_bits.specs.Fields.{field_of, sext_of}
 use Rattle.mw_decode.specs.declared.layout.Field.{Field}
 use Rattle.mw_decode.specs.declared.layout.Layout.{Layout}
-use Rattle.mw_decode.specs.declared.layout.Layout.TheVariants.{DRtRaSi, DRaRsUi, ITarget, XoRtRaRb}
+use Rattle.mw_decode.specs.declared.layout.Layout.TheVariants.{DRtRaSi, DRaRsUi, DRtDRa, DRsDRa, DsRtDRa, DsRsDRa, ITarget, XRtRaRb, XRsRaRb, XRaRb, XoRtRaRb}
 
 -- a register's number, in bits first to last
 abbrev pub register : ℕ → Field
@@ -47,6 +47,14 @@ si = signed 16 31
 abbrev pub ui : Field
 ui = unsigned 16 31
 
+-- D: a displacement of bytes
+abbrev pub d : Field
+d = signed 16 31
+
+-- DS: a displacement of words
+abbrev pub ds : Field
+ds = words 16 29
+
 -- LI: a displacement of words
 abbrev pub li : Field
 li = words 6 29
@@ -55,12 +63,92 @@ li = words 6 29
 abbrev pub fields_of : Layout → List Field
 fields_of DRtRaSi = rt ∷ ra ∷ si ∷ []
 fields_of DRaRsUi = ra ∷ rs ∷ ui ∷ []
+fields_of DRtDRa = rt ∷ d ∷ ra ∷ []
+fields_of DRsDRa = rs ∷ d ∷ ra ∷ []
+fields_of DsRtDRa = rt ∷ ds ∷ ra ∷ []
+fields_of DsRsDRa = rs ∷ ds ∷ ra ∷ []
 fields_of ITarget = li ∷ []
+fields_of XRtRaRb = rt ∷ ra ∷ rb ∷ []
+fields_of XRsRaRb = rs ∷ ra ∷ rb ∷ []
+fields_of XRaRb = ra ∷ rb ∷ []
 fields_of XoRtRaRb = rt ∷ ra ∷ rb ∷ []
 
 -- the layout of each row, in the order of the table
 unfoldable pub layouts : List Layout
-layouts = DRtRaSi ∷ DRtRaSi ∷ DRaRsUi ∷ ITarget ∷ XoRtRaRb ∷ []
+layouts =
+    DRtRaSi -- addi
+    ∷ DRtRaSi -- addis
+    ∷ DRaRsUi -- ori
+    ∷ ITarget -- b
+    ∷ XoRtRaRb -- add
+    ∷ DRtDRa -- lwz
+    ∷ DRtDRa -- lwzu
+    ∷ DRtDRa -- lbz
+    ∷ DRtDRa -- lbzu
+    ∷ DRsDRa -- stw
+    ∷ DRsDRa -- stwu
+    ∷ DRsDRa -- stb
+    ∷ DRsDRa -- stbu
+    ∷ DRtDRa -- lhz
+    ∷ DRtDRa -- lhzu
+    ∷ DRtDRa -- lha
+    ∷ DRtDRa -- lhau
+    ∷ DRsDRa -- sth
+    ∷ DRsDRa -- sthu
+    ∷ DsRtDRa -- ld
+    ∷ DsRtDRa -- ldu
+    ∷ DsRtDRa -- lwa
+    ∷ DsRsDRa -- std
+    ∷ DsRsDRa -- stdu
+    ∷ XRtRaRb -- ldx
+    ∷ XRtRaRb -- lwzx
+    ∷ XRtRaRb -- ldux
+    ∷ XRtRaRb -- lwzux
+    ∷ XRtRaRb -- lbzx
+    ∷ XRtRaRb -- lbzux
+    ∷ XRtRaRb -- lhzx
+    ∷ XRtRaRb -- lhzux
+    ∷ XRtRaRb -- lwax
+    ∷ XRtRaRb -- lhax
+    ∷ XRtRaRb -- lwaux
+    ∷ XRtRaRb -- lhaux
+    ∷ XRtRaRb -- ldbrx
+    ∷ XRtRaRb -- lwbrx
+    ∷ XRtRaRb -- lhbrx
+    ∷ XRsRaRb -- stdx
+    ∷ XRsRaRb -- stwx
+    ∷ XRsRaRb -- stdux
+    ∷ XRsRaRb -- stwux
+    ∷ XRsRaRb -- stbx
+    ∷ XRsRaRb -- stbux
+    ∷ XRsRaRb -- sthx
+    ∷ XRsRaRb -- sthux
+    ∷ XRsRaRb -- stdbrx
+    ∷ XRsRaRb -- stwbrx
+    ∷ XRsRaRb -- sthbrx
+    ∷ XRtRaRb -- lwarx
+    ∷ XRtRaRb -- lbarx
+    ∷ XRtRaRb -- ldarx
+    ∷ XRtRaRb -- lharx
+    ∷ XRsRaRb -- stwcx.
+    ∷ XRsRaRb -- stdcx.
+    ∷ XRsRaRb -- stbcx.
+    ∷ XRsRaRb -- sthcx.
+    ∷ XRtRaRb -- lwzcix
+    ∷ XRtRaRb -- lhzcix
+    ∷ XRtRaRb -- lbzcix
+    ∷ XRtRaRb -- ldcix
+    ∷ XRsRaRb -- stwcix
+    ∷ XRsRaRb -- sthcix
+    ∷ XRsRaRb -- stbcix
+    ∷ XRsRaRb -- stdcix
+    ∷ XRaRb -- dcbst
+    ∷ XRaRb -- dcbf
+    ∷ XRaRb -- dcbtst
+    ∷ XRaRb -- dcbt
+    ∷ XRaRb -- icbi
+    ∷ XRaRb -- dcbz
+    ∷ []
 
 -- how many bits a field has
 abbrev pub width_of : Field → ℕ

@@ -8,6 +8,7 @@ use crate::groups::leading_place;
 use crate::insn::{Decoded, Insn};
 use crate::operands::operands;
 use crate::row::Row;
+use crate::rule::is_illegal_form;
 use crate::table::{layout_at, row_at, rows};
 
 /// Whether `word` has the row's fixed parts.
@@ -53,10 +54,14 @@ fn decode_word(word: u32) -> Decoded
     let Some(place) = place_of(word) else {
         return Decoded::Illegal;
     };
+    let ops = operands(word, fields_of_layout(layout_at(place)));
+    if is_illegal_form(place, ops.as_slice()) {
+        return Decoded::Illegal;
+    }
     let row = row_at(place);
     Decoded::Insn(Insn {
         row: place,
-        ops: operands(word, fields_of_layout(layout_at(place))),
+        ops,
         oe: row.oe && bit(word, 21),
         rc: row.rc && bit(word, 31),
         aa: row.absolute && bit(word, 30),
@@ -65,7 +70,7 @@ fn decode_word(word: u32) -> Decoded
 }
 
 /// What `word` is, a plain word or a prefix with its suffix (Book I, instruction formats). Illegal
-/// is a word that no row of the table matches.
+/// is a word that no row of the table matches, and one whose operands its row forbids.
 #[tactic(auto, unfolding(crate::specs::Decode::decode_of))]
 pub fn decode(word: u32, suffix: Option<u32>) -> Decoded
     requires { is_some suffix ≡ is_prefix word }

@@ -22,6 +22,6 @@ pub struct Insn {
 pub enum Decoded {
     /// An instruction of the table.
     Insn(Insn),
-    /// No row of the table matches.
+    /// No row of the table matches, or the row that does forbids the operands.
     Illegal,
 }

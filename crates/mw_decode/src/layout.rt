@@ -20,8 +20,22 @@ pub enum Layout {
     DRtRaSi,
     /// RA,RS,UI in the form D.
     DRaRsUi,
+    /// RT,D(RA) in the form D.
+    DRtDRa,
+    /// RS,D(RA) in the form D.
+    DRsDRa,
+    /// RT,D(RA) in the form DS.
+    DsRtDRa,
+    /// RS,D(RA) in the form DS.
+    DsRsDRa,
     /// The target in the form I.
     ITarget,
+    /// RT,RA,RB in the form X.
+    XRtRaRb,
+    /// RS,RA,RB in the form X.
+    XRsRaRb,
+    /// RA,RB in the form X.
+    XRaRb,
     /// RT,RA,RB in the form XO.
     XoRtRaRb,
 }

@@ -14,8 +14,16 @@ pub enum Shape {
     RaRsUi,
     /// target
     Target,
+    /// RT,D(RA)
+    RtDRa,
+    /// RS,D(RA)
+    RsDRa,
     /// RT,RA,RB
     RtRaRb,
+    /// RS,RA,RB
+    RsRaRb,
+    /// RA,RB
+    RaRb,
 }
 
 /// A row of the instruction table.

@@ -1,0 +1,7 @@
+use Rattle.std.proofs.Common.{refl}
+use Rattle.mw_decode.specs.Rules.{row_rules}
+use Rattle.mw_decode.proofs.table.all_rules.Goals as goal
+
+pub returns-clause-value : goal.returns-clause-value
+unfolding row_rules
+returns-clause-value c = refl
