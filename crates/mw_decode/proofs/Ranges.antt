@@ -1,20 +1,22 @@
 -- What is known of an instruction of the table, for the crates that carry it out.
-use Rattle.std.proofs.Common.{◌≡◌, ℕ, zero, suc, ◌+◌, ◌-◌, ◌*◌, ◌%◌, ◌<◌, ◌≤◌, ◌^◌, true, false, cond, List, [], ◌∷◌, Some, Option, length, slice_get, ℤ, pos, negsuc, neg_ℤ, ◌-ℤ◌, ◌≤ℤ◌, ◌<ℤ◌, nat_lt, IsSomeAnd, refl, sym, ap, ◌∙◌, subst, lit≤, inl, inr, arith}
+use Rattle.std.proofs.Common.{◌≡◌, ℕ, zero, suc, ◌+◌, ◌-◌, ◌*◌, ◌%◌, ◌<◌, ◌≤◌, ◌^◌, true, false, cond, List, [], ◌∷◌, Some, None, Option, option_map, length, slice_get, ℤ, pos, negsuc, neg_ℤ, ◌-ℤ◌, ◌≤ℤ◌, ◌<ℤ◌, nat_lt, IsSomeAnd, refl, sym, ap, ◌∙◌, subst, lit≤, inl, inr, arith}
 use Rattle.std.specs.Int.{w64, cast_signed, cast_unsigned}
 use Rattle.std.specs.Option.{option_map_or}
 use Rattle.std.proofs.lemmas.Int.{ints, of_z-to_z, to_z_pos}
 use Rattle.std.proofs.lemmas.Bool.{cases_lt, lt-ltb, le-ltb, cond-true, cond-false, cond_both}
 use Rattle.std.proofs.Math.Nat.{mod-eq_of_lt}
 use Rattle.std.proofs.Math.Pow.{pow_mono}
+use Rattle.std.proofs.lemmas.Option.{slice_get-map}
 use Rattle.std.proofs.lemmas.Nat.{shl_below, pow-add, pow_pos, mod_below}
 use Rattle.mw_bits.specs.Fields.{sext_of}
+use Rattle.mw_decode.specs.declared.row.Shape.{Shape}
 use Rattle.mw_decode.specs.declared.layout.Field.{Field}
 use Rattle.mw_decode.specs.declared.layout.Layout.{Layout}
 use Rattle.mw_decode.specs.declared.layout.Layout.TheVariants.{DRtRaSi, DRaRsUi, DRtDRa, DRsDRa, DsRtDRa, DsRsDRa, ITarget, XRtRaRb, XRsRaRb, XRaRb, XoRtRaRb}
 use Rattle.mw_decode.specs.declared.insn.Insn.{Insn}
 use Rattle.mw_decode.specs.Row.{TableRow}
 use Rattle.mw_decode.specs.Rows.{table, row_count}
-use Rattle.mw_decode.specs.Fields.{layouts, fields_of, width_of, register, si, ui, d, ds, li, operand_from, operand_at, InRange, HasOperands, IsRegister, IsUnsigned, IsSigned}
+use Rattle.mw_decode.specs.Fields.{layouts, fields_of, shape_of, AreLaidOut, width_of, register, si, ui, d, ds, li, operand_from, operand_at, InRange, HasOperands, IsRegister, IsUnsigned, IsSigned}
 use Rattle.mw_decode.specs.declared.rule.Rule.{Rule}
 use Rattle.mw_decode.specs.Rules.{row_rules, is_illegal}
 use Rattle.mw_decode.specs.Decode.{IsInsn, HasForms}
@@ -37,6 +39,25 @@ IsInsn-forms insn place row is at there =
 pub IsInsn-legal : (insn : Insn) (place : ℕ) (rule : Rule) → IsInsn insn → insn.row ≡ place → slice_get row_rules place ≡ Some rule → is_illegal rule insn.ops.items ≡ false
 IsInsn-legal insn place rule is at there =
     sym (ap (λ (o : Option Rule). option_map_or (λ r. is_illegal r insn.ops.items) o false) (ap (slice_get row_rules) at ∙ there)) ∙ is.legal
+
+table_laid_out : AreLaidOut table
+unfolding table layouts
+table_laid_out = refl
+
+with_shape : (row : TableRow) (layout : Option Layout) (P : Layout → Type 0) → option_map shape_of layout ≡ Some row.shape → IsSomeAnd layout P → (l : Layout) × (shape_of l ≡ row.shape) × P l
+with_shape row None P same has = absurd has
+with_shape row (Some l) P same has = (l, cc, has)
+
+-- its row's layout has the operand list of the row, and gives its operands
+pub IsInsn-layout : (insn : Insn) (row : TableRow) → IsInsn insn → slice_get table insn.row ≡ Some row → (layout : Layout) × (shape_of layout ≡ row.shape) × HasOperands (fields_of layout) insn.ops.items
+IsInsn-layout insn row is at =
+    let listed : TableRow → Shape = λ (r : TableRow). r.shape in
+    let same : option_map shape_of (slice_get layouts insn.row) ≡ Some row.shape =
+    sym (slice_get-map shape_of layouts insn.row)
+    ∙ sym (ap (λ (shapes : List Shape). slice_get shapes insn.row) table_laid_out)
+    ∙ slice_get-map listed table insn.row
+    ∙ ap (option_map listed) at in
+    with_shape row (slice_get layouts insn.row) (λ l. HasOperands (fields_of l) insn.ops.items) same is.operands
 
 in_list : {X : Type 0} (xs : List X) (i : ℕ) (P : X → Type 0) → IsSomeAnd (slice_get xs i) P → i < length xs
 in_list [] i P h = absurd h

@@ -3,9 +3,12 @@ use Rattle.std.specs.Prelude.{ℕ, ◌+◌, ◌-◌, ◌*◌, ◌^◌, ◌<◌, 
 use Rattle.std.specs.List.{list_all}
 use Rattle.std.specs.Int.{w64, cast_signed}
 use Rattle.mw_bits.specs.Fields.{field_of, sext_of}
+use Rattle.mw_decode.specs.declared.row.Shape.{Shape}
+use Rattle.mw_decode.specs.declared.row.Shape.TheVariants.{RtRaSi, RaRsUi, Target, RtDRa, RsDRa, RtRaRb, RsRaRb, RaRb}
 use Rattle.mw_decode.specs.declared.layout.Field.{Field}
 use Rattle.mw_decode.specs.declared.layout.Layout.{Layout}
 use Rattle.mw_decode.specs.declared.layout.Layout.TheVariants.{DRtRaSi, DRaRsUi, DRtDRa, DRsDRa, DsRtDRa, DsRsDRa, ITarget, XRtRaRb, XRsRaRb, XRaRb, XoRtRaRb}
+use Rattle.mw_decode.specs.Row.{TableRow}
 
 -- a register's number, in bits first to last
 abbrev pub register : ℕ → Field
@@ -73,82 +76,100 @@ fields_of XRsRaRb = rs ∷ ra ∷ rb ∷ []
 fields_of XRaRb = ra ∷ rb ∷ []
 fields_of XoRtRaRb = rt ∷ ra ∷ rb ∷ []
 
+-- the operand list that a layout lays out
+abbrev pub shape_of : Layout → Shape
+shape_of DRtRaSi = RtRaSi
+shape_of DRaRsUi = RaRsUi
+shape_of DRtDRa = RtDRa
+shape_of DRsDRa = RsDRa
+shape_of DsRtDRa = RtDRa
+shape_of DsRsDRa = RsDRa
+shape_of ITarget = Target
+shape_of XRtRaRb = RtRaRb
+shape_of XRsRaRb = RsRaRb
+shape_of XRaRb = RaRb
+shape_of XoRtRaRb = RtRaRb
+
 -- the layout of each row, in the order of the table
 unfoldable pub layouts : List Layout
 layouts =
-    DRtRaSi -- addi
-    ∷ DRtRaSi -- addis
-    ∷ DRaRsUi -- ori
-    ∷ ITarget -- b
-    ∷ XoRtRaRb -- add
-    ∷ DRtDRa -- lwz
-    ∷ DRtDRa -- lwzu
-    ∷ DRtDRa -- lbz
-    ∷ DRtDRa -- lbzu
-    ∷ DRsDRa -- stw
-    ∷ DRsDRa -- stwu
-    ∷ DRsDRa -- stb
-    ∷ DRsDRa -- stbu
-    ∷ DRtDRa -- lhz
-    ∷ DRtDRa -- lhzu
-    ∷ DRtDRa -- lha
-    ∷ DRtDRa -- lhau
-    ∷ DRsDRa -- sth
-    ∷ DRsDRa -- sthu
-    ∷ DsRtDRa -- ld
-    ∷ DsRtDRa -- ldu
-    ∷ DsRtDRa -- lwa
-    ∷ DsRsDRa -- std
-    ∷ DsRsDRa -- stdu
-    ∷ XRtRaRb -- ldx
-    ∷ XRtRaRb -- lwzx
-    ∷ XRtRaRb -- ldux
-    ∷ XRtRaRb -- lwzux
-    ∷ XRtRaRb -- lbzx
-    ∷ XRtRaRb -- lbzux
-    ∷ XRtRaRb -- lhzx
-    ∷ XRtRaRb -- lhzux
-    ∷ XRtRaRb -- lwax
-    ∷ XRtRaRb -- lhax
-    ∷ XRtRaRb -- lwaux
-    ∷ XRtRaRb -- lhaux
-    ∷ XRtRaRb -- ldbrx
-    ∷ XRtRaRb -- lwbrx
-    ∷ XRtRaRb -- lhbrx
-    ∷ XRsRaRb -- stdx
-    ∷ XRsRaRb -- stwx
-    ∷ XRsRaRb -- stdux
-    ∷ XRsRaRb -- stwux
-    ∷ XRsRaRb -- stbx
-    ∷ XRsRaRb -- stbux
-    ∷ XRsRaRb -- sthx
-    ∷ XRsRaRb -- sthux
-    ∷ XRsRaRb -- stdbrx
-    ∷ XRsRaRb -- stwbrx
-    ∷ XRsRaRb -- sthbrx
-    ∷ XRtRaRb -- lwarx
-    ∷ XRtRaRb -- lbarx
-    ∷ XRtRaRb -- ldarx
-    ∷ XRtRaRb -- lharx
-    ∷ XRsRaRb -- stwcx.
-    ∷ XRsRaRb -- stdcx.
-    ∷ XRsRaRb -- stbcx.
-    ∷ XRsRaRb -- sthcx.
-    ∷ XRtRaRb -- lwzcix
-    ∷ XRtRaRb -- lhzcix
-    ∷ XRtRaRb -- lbzcix
-    ∷ XRtRaRb -- ldcix
-    ∷ XRsRaRb -- stwcix
-    ∷ XRsRaRb -- sthcix
-    ∷ XRsRaRb -- stbcix
-    ∷ XRsRaRb -- stdcix
-    ∷ XRaRb -- dcbst
-    ∷ XRaRb -- dcbf
-    ∷ XRaRb -- dcbtst
-    ∷ XRaRb -- dcbt
-    ∷ XRaRb -- icbi
-    ∷ XRaRb -- dcbz
+    DRtRaSi  -- addi
+    ∷ DRtRaSi  -- addis
+    ∷ DRaRsUi  -- ori
+    ∷ ITarget  -- b
+    ∷ XoRtRaRb  -- add
+    ∷ DRtDRa  -- lwz
+    ∷ DRtDRa  -- lwzu
+    ∷ DRtDRa  -- lbz
+    ∷ DRtDRa  -- lbzu
+    ∷ DRsDRa  -- stw
+    ∷ DRsDRa  -- stwu
+    ∷ DRsDRa  -- stb
+    ∷ DRsDRa  -- stbu
+    ∷ DRtDRa  -- lhz
+    ∷ DRtDRa  -- lhzu
+    ∷ DRtDRa  -- lha
+    ∷ DRtDRa  -- lhau
+    ∷ DRsDRa  -- sth
+    ∷ DRsDRa  -- sthu
+    ∷ DsRtDRa  -- ld
+    ∷ DsRtDRa  -- ldu
+    ∷ DsRtDRa  -- lwa
+    ∷ DsRsDRa  -- std
+    ∷ DsRsDRa  -- stdu
+    ∷ XRtRaRb  -- ldx
+    ∷ XRtRaRb  -- lwzx
+    ∷ XRtRaRb  -- ldux
+    ∷ XRtRaRb  -- lwzux
+    ∷ XRtRaRb  -- lbzx
+    ∷ XRtRaRb  -- lbzux
+    ∷ XRtRaRb  -- lhzx
+    ∷ XRtRaRb  -- lhzux
+    ∷ XRtRaRb  -- lwax
+    ∷ XRtRaRb  -- lhax
+    ∷ XRtRaRb  -- lwaux
+    ∷ XRtRaRb  -- lhaux
+    ∷ XRtRaRb  -- ldbrx
+    ∷ XRtRaRb  -- lwbrx
+    ∷ XRtRaRb  -- lhbrx
+    ∷ XRsRaRb  -- stdx
+    ∷ XRsRaRb  -- stwx
+    ∷ XRsRaRb  -- stdux
+    ∷ XRsRaRb  -- stwux
+    ∷ XRsRaRb  -- stbx
+    ∷ XRsRaRb  -- stbux
+    ∷ XRsRaRb  -- sthx
+    ∷ XRsRaRb  -- sthux
+    ∷ XRsRaRb  -- stdbrx
+    ∷ XRsRaRb  -- stwbrx
+    ∷ XRsRaRb  -- sthbrx
+    ∷ XRtRaRb  -- lwarx
+    ∷ XRtRaRb  -- lbarx
+    ∷ XRtRaRb  -- ldarx
+    ∷ XRtRaRb  -- lharx
+    ∷ XRsRaRb  -- stwcx.
+    ∷ XRsRaRb  -- stdcx.
+    ∷ XRsRaRb  -- stbcx.
+    ∷ XRsRaRb  -- sthcx.
+    ∷ XRtRaRb  -- lwzcix
+    ∷ XRtRaRb  -- lhzcix
+    ∷ XRtRaRb  -- lbzcix
+    ∷ XRtRaRb  -- ldcix
+    ∷ XRsRaRb  -- stwcix
+    ∷ XRsRaRb  -- sthcix
+    ∷ XRsRaRb  -- stbcix
+    ∷ XRsRaRb  -- stdcix
+    ∷ XRaRb  -- dcbst
+    ∷ XRaRb  -- dcbf
+    ∷ XRaRb  -- dcbtst
+    ∷ XRaRb  -- dcbt
+    ∷ XRaRb  -- icbi
+    ∷ XRaRb  -- dcbz
     ∷ []
+
+-- the operand list of each row is that of its layout
+abbrev pub AreLaidOut : List TableRow → Type 0
+AreLaidOut rows = map (λ (row : TableRow). row.shape) rows ≡ map shape_of layouts
 
 -- how many bits a field has
 abbrev pub width_of : Field → ℕ

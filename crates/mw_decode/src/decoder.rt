@@ -100,7 +100,7 @@ mod tests {
     struct Case(u32, u16, &'static [i64], [bool; 4]);
 
     #[rattlefmt::skip]
-    static CASES: [Case; 9] = [
+    static CASES: [Case; 25] = [
         Case(0x3860_0005, 0, &[3, 0, 5], [false, false, false, false]), // li r3,5
         Case(0x3860_ffff, 0, &[3, 0, -1], [false, false, false, false]), // li r3,-1
         Case(0x3c60_8000, 1, &[3, 0, -32768], [false, false, false, false]), // lis r3,-32768
@@ -110,6 +110,22 @@ mod tests {
         Case(0x4800_0000, 3, &[0], [false, false, false, false]), // b .
         Case(0x4bff_fffe, 3, &[-4], [false, false, true, false]), // ba -4
         Case(0x4800_0001, 3, &[0], [false, false, false, true]), // bl .
+        Case(0x8064_0008, 5, &[3, 8, 4], [false, false, false, false]), // lwz r3,8(r4)
+        Case(0x8064_fff8, 5, &[3, -8, 4], [false, false, false, false]), // lwz r3,-8(r4)
+        Case(0x8464_0008, 6, &[3, 8, 4], [false, false, false, false]), // lwzu r3,8(r4)
+        Case(0x9463_0008, 10, &[3, 8, 3], [false, false, false, false]), // stwu r3,8(r3)
+        Case(0xe864_0010, 19, &[3, 16, 4], [false, false, false, false]), // ld r3,16(r4)
+        Case(0xe864_0011, 20, &[3, 16, 4], [false, false, false, false]), // ldu r3,16(r4)
+        Case(0xe864_fff2, 21, &[3, -16, 4], [false, false, false, false]), // lwa r3,-16(r4)
+        Case(0xf864_0010, 22, &[3, 16, 4], [false, false, false, false]), // std r3,16(r4)
+        Case(0x7c64_282a, 24, &[3, 4, 5], [false, false, false, false]), // ldx r3,r4,r5
+        Case(0x7c64_282b, 24, &[3, 4, 5], [false, false, false, false]), // ldx, bit 31 ignored
+        Case(0x7c64_286e, 27, &[3, 4, 5], [false, false, false, false]), // lwzux r3,r4,r5
+        Case(0x7c64_2028, 50, &[3, 4, 4], [false, false, false, false]), // lwarx r3,r4,r4
+        Case(0x7c64_2029, 50, &[3, 4, 4], [false, false, false, false]), // lwarx, bit 31 ignored
+        Case(0x7c64_292d, 54, &[3, 4, 5], [false, false, false, false]), // stwcx. r3,r4,r5
+        Case(0x7c00_1fac, 70, &[0, 3], [false, false, false, false]), // icbi 0,r3
+        Case(0x7c03_27ec, 71, &[3, 4], [false, false, false, false]), // dcbz r3,r4
     ];
 
     #[test]
@@ -126,11 +142,25 @@ mod tests {
         }
     }
 
+    #[rattlefmt::skip]
+    static ILLEGAL: [u32; 13] = [
+        0, 0x7ca3_2216, 0xffff_ffff, // no row
+        0x0600_0000, // a prefix
+        0x8484_0008, // lwzu r4,8(r4)
+        0x8460_0008, // lwzu r3,8(0)
+        0x7c63_286e, // lwzux r3,r3,r5
+        0x7c60_286e, // lwzux r3,0,r5
+        0x9460_0008, // stwu r3,8(0)
+        0x7c60_296e, // stwux r3,0,r5
+        0xe864_0013, 0xf864_0012, // no row of the form DS
+        0x7c64_292c, // stwcx. without bit 31
+    ];
+
     #[test]
     fn refuses(rt: HostRuntime) {
-        for word in [0, 0x7ca3_2216, 0xffff_ffff, 0x0600_0000] {
+        for word in &ILLEGAL {
             assert!(rt;
-                matches!(decoded(word, 0x3860_0005), Decoded::Illegal),
+                matches!(decoded(*word, 0x3860_0005), Decoded::Illegal),
                 "{word:x}"
             );
         }

@@ -46,3 +46,18 @@ pub fn is_illegal_form(row: u16, ops: &[i64]) -> bool
 {
     forbids(rule_at(row), ops)
 }
+
+#[cfg(test)]
+mod tests {
+    use super::*;
+
+    #[test]
+    fn forms(rt: HostRuntime) {
+        // lwzu and stwu, by their rows
+        assert!(rt; is_illegal_form(6, &[4, 8, 4]));
+        assert!(rt; is_illegal_form(6, &[3, 8, 0]));
+        assert!(rt; !is_illegal_form(6, &[3, 8, 4]));
+        assert!(rt; is_illegal_form(10, &[3, 8, 0]));
+        assert!(rt; !is_illegal_form(10, &[3, 8, 3]));
+    }
+}

@@ -1,8 +1,8 @@
-ghost use Rattle.std.specs.Prelude.{◌≡◌, ◌<◌, Some, length, map, slice_get};
-ghost use Rattle.mw_decode.specs.Fields.{layouts};
+ghost use Rattle.std.specs.Prelude.{◌≡◌, ◌<◌, IsTrue, Some, length, map, slice_get};
+ghost use Rattle.mw_decode.specs.Fields.{layouts, AreLaidOut};
 ghost use Rattle.mw_decode.specs.Row.{row_of, AreApart};
 ghost use Rattle.mw_decode.specs.Rows.{table, row_count};
-ghost use Rattle.mw_decode.specs.Rules.{row_rules};
+ghost use Rattle.mw_decode.specs.Rules.{row_rules, each_names_ra};
 
 use crate::layout::Layout;
 use crate::row::{PrefixKind, Row, Shape};
@@ -245,6 +245,7 @@ pub fn rows() -> &'static [Row]
     ensures value { map row_of result.now ≡ table }
     ensures count { length result.now ≡ row_count }
     ensures apart { AreApart (map row_of result.now) }
+    ensures laid_out { AreLaidOut (map row_of result.now) }
 {
     &ROWS
 }
@@ -276,6 +277,7 @@ pub fn layout_at(place: u16) -> Layout
 /// The rules of all rows.
 fn all_rules() -> &'static [Rule]
     ensures value { result.now ≡ row_rules }
+    ensures places { IsTrue (each_names_ra result.now layouts) }
     ensures count { length result.now ≡ row_count }
 {
     &RULES
@@ -296,7 +298,8 @@ mod tests {
     #[test]
     fn names(rt: HostRuntime) {
         assert_eq!(rt; row_at(0).name, "addi");
-        assert_eq!(rt; row_at(4).name, "add");
-        assert_eq!(rt; rows().len(), 5);
+        assert_eq!(rt; row_at(54).name, "stwcx.");
+        assert_eq!(rt; row_at(71).name, "dcbz");
+        assert_eq!(rt; rows().len(), 72);
     }
 }

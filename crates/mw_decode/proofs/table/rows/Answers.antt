@@ -1,4 +1,5 @@
 use Rattle.std.proofs.Common.{refl}
+use Rattle.mw_decode.specs.Fields.{layouts}
 use Rattle.mw_decode.specs.Rows.{table}
 use Rattle.mw_decode.proofs.Places.{table-AreApart}
 use Rattle.mw_decode.proofs.table.rows.Goals as goal
@@ -10,3 +11,7 @@ returns-clause-value c = refl
 pub returns-clause-apart : goal.returns-clause-apart
 unfolding table
 returns-clause-apart c = table-AreApart
+
+pub returns-clause-laid_out : goal.returns-clause-laid_out
+unfolding layouts
+returns-clause-laid_out c = refl
