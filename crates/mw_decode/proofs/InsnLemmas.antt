@@ -1,5 +1,5 @@
 -- What decoding gives is an instruction of the table: its row has its forms, its operands are in range, and they are no illegal form.
-use Rattle.std.proofs.Common.{◌≡◌, ℕ, ◌+◌, ◌-◌, ◌<◌, ◌^◌, List, [], ◌∷◌, ◌++◌, Option, Some, None, Bool, false, length, get_or, ℤ, pos, refl, subst, arith, append_assoc, length-append, slice_get}
+use Rattle.std.proofs.Common.{◌≡◌, ℕ, ◌+◌, ◌-◌, ◌<◌, ◌^◌, List, [], ◌∷◌, ◌++◌, Option, Some, None, false, length, get_or, ℤ, pos, refl, subst, arith, append_assoc, length-append, slice_get}
 use Rattle.std.proofs.lemmas.Bool.{and_parts, cond_both}
 use Rattle.std.proofs.lemmas.List.{length-map}
 use Rattle.mw_bits.proofs.FieldLemmas.{field-lt}
