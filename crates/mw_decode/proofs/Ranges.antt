@@ -3,7 +3,9 @@ use Rattle.std.proofs.Common.{◌≡◌, ℕ, zero, suc, ◌+◌, ◌-◌, ◌*�
 use Rattle.std.specs.Int.{w64, cast_signed, cast_unsigned}
 use Rattle.std.specs.Option.{option_map_or}
 use Rattle.std.proofs.lemmas.Int.{ints, of_z-to_z, to_z_pos}
-use Rattle.std.proofs.lemmas.Bool.{cases_lt, lt-ltb, le-ltb, cond-true, cond-false, cond_both}
+use Rattle.std.specs.Ordering.{int_eq}
+use Rattle.std.proofs.lemmas.Bool.{cases_lt, lt-ltb, le-ltb, cond-true, cond-false, cond_both, or_parts}
+use Rattle.std.proofs.lemmas.Bool.Decides.{Decides-int_eq, not_from_Decides}
 use Rattle.std.proofs.Math.Nat.{mod-eq_of_lt}
 use Rattle.std.proofs.Math.Pow.{pow_mono}
 use Rattle.std.proofs.lemmas.Option.{slice_get-map}
@@ -18,6 +20,7 @@ use Rattle.mw_decode.specs.Row.{TableRow}
 use Rattle.mw_decode.specs.Rows.{table, row_count}
 use Rattle.mw_decode.specs.Fields.{layouts, fields_of, shape_of, AreLaidOut, width_of, register, si, ui, d, ds, li, operand_from, operand_at, InRange, HasOperands, IsRegister, IsUnsigned, IsSigned}
 use Rattle.mw_decode.specs.declared.rule.Rule.{Rule}
+use Rattle.mw_decode.specs.declared.rule.Rule.TheVariants.{LoadUpdate, StoreUpdate}
 use Rattle.mw_decode.specs.Rules.{row_rules, is_illegal}
 use Rattle.mw_decode.specs.Decode.{IsInsn, HasForms}
 use Rattle.mw_decode.proofs.OperandLemmas.{operand_from-unsigned, operand_from-signed}
@@ -39,6 +42,16 @@ IsInsn-forms insn place row is at there =
 pub IsInsn-legal : (insn : Insn) (place : ℕ) (rule : Rule) → IsInsn insn → insn.row ≡ place → slice_get row_rules place ≡ Some rule → is_illegal rule insn.ops.items ≡ false
 IsInsn-legal insn place rule is at there =
     sym (ap (λ (o : Option Rule). option_map_or (λ r. is_illegal r insn.ops.items) o false) (ap (slice_get row_rules) at ∙ there)) ∙ is.legal
+
+-- a load with update that is legal has an RA that is neither 0 nor RT
+pub LoadUpdate-legal : (place : ℕ) (ops : List ℤ) → is_illegal (LoadUpdate place) ops ≡ false → ¬ (operand_at ops place ≡ pos 0) × ¬ (operand_at ops place ≡ operand_at ops 0)
+LoadUpdate-legal place ops legal =
+    let both = or_parts (int_eq (operand_at ops place) (pos 0)) (int_eq (operand_at ops place) (operand_at ops 0)) legal in
+    (not_from_Decides _ (Decides-int_eq _ _) both.0, not_from_Decides _ (Decides-int_eq _ _) both.1)
+
+-- a store with update that is legal has an RA that is not 0
+pub StoreUpdate-legal : (place : ℕ) (ops : List ℤ) → is_illegal (StoreUpdate place) ops ≡ false → ¬ (operand_at ops place ≡ pos 0)
+StoreUpdate-legal place ops legal = not_from_Decides _ (Decides-int_eq (operand_at ops place) (pos 0)) legal
 
 table_laid_out : AreLaidOut table
 unfolding table layouts

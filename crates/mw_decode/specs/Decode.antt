@@ -1,4 +1,4 @@
--- What a word is: the row that matches, with its operands (Book I, instruction formats).
+-- What a word is: the row that matches, with its operands, unless they are an illegal form (Book I, instruction formats).
 use Rattle.std.specs.Prelude.{ℕ, ◌+◌, ◌≡◌, ◌==◌, Bool, true, false, ◌&&◌, if◌then◌else◌, Option, Some, None, IsSomeAnd, slice_get}
 use Rattle.std.specs.List.{position_from}
 use Rattle.mw_bits.specs.Fields.{field_of}

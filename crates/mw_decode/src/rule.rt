@@ -39,7 +39,7 @@ fn forbids(rule: Rule, ops: &[i64]) -> bool
 }
 
 /// Whether the row at a place of the table is an illegal form with these operands: a load with
-/// update whose RA is 0 or RT, or a store with update whose RA is 0.
+/// update whose RA is 0 or RT, or a store with update whose RA is 0. A missing operand counts as 0.
 pub fn is_illegal_form(row: u16, ops: &[i64]) -> bool
     requires { row < row_count }
     ensures { result ≡ is_illegal_form row ops.now }

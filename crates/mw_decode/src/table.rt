@@ -8,7 +8,7 @@ use crate::layout::Layout;
 use crate::row::{PrefixKind, Row, Shape};
 use crate::rule::Rule;
 
-/// The rows, one a line, in the manual's order.
+/// The rows, one a line, in the order of the definitions.
 #[rattlefmt::skip]
 static ROWS: [Row; 72] = [
     Row { name: "addi", mask: 0xfc00_0000, value: 0x3800_0000, prefix: PrefixKind::Plain, shape: Shape::RtRaSi, oe: false, rc: false, links: false, absolute: false },
@@ -239,7 +239,7 @@ static RULES: [Rule; 72] = [
     Rule::AlwaysLegal, // dcbz
 ];
 
-/// The table of instructions, in the manual's order (Book I, instruction formats). The place of a
+/// The table of instructions (Book I, instruction formats). The place of a
 /// row in it is the instruction's number.
 pub fn rows() -> &'static [Row]
     ensures value { map row_of result.now ≡ table }
