@@ -4,7 +4,7 @@ ghost use Rattle.mw_bus.specs.Memory.{ram_of, word_at, byte_at};
 use std::alloc::{AllocError as NoMemory, Global};
 use std::marker::Model;
 
-/// The bytes of RAM, from real address 0 on.
+/// How many bytes of RAM there are: 16 MiB, at the real addresses from 0 on.
 pub const RAM_SIZE: usize = 16777216;
 
 /// The board's RAM, seen as a list of 16,777,216 bytes.
@@ -22,7 +22,7 @@ impl Model for Ram {
 }
 
 impl Ram {
-    /// The image from address 0 on, with zeros behind it.
+    /// The image from real address 0 on, with zeros behind it. The only error is want of memory.
     pub fn new(alloc: Global, image: &[u8]) -> Result<Ram, NoMemory>
         requires { length image.now ≤ 16777216 }
         ensures { IfOk result (λ r. r ≡ ram_of image.now) }
@@ -32,7 +32,7 @@ impl Ram {
         Ok(Ram { bytes })
     }
 
-    /// The byte at an address.
+    /// The byte at a real address in RAM.
     pub fn get(&self, at: u32) -> u8
         requires { at < 2 ^ 24 }
         ensures { result ≡ slice_index self.now at }
@@ -40,7 +40,7 @@ impl Ram {
         self.bytes[at as usize]
     }
 
-    /// Sets the byte at an address, and no other.
+    /// Sets the byte at a real address in RAM, and no other.
     pub fn put(&mut self, at: u32, byte: u8)
         requires { at < 2 ^ 24 }
         ensures { self.new ≡ slice_set self.old at byte }
@@ -59,7 +59,8 @@ impl Ram {
         }
     }
 
-    /// The little-endian word at a real address, as a fetch reads it: all ones where RAM isn't.
+    /// The 32-bit word at a real address, as a fetch with MSR.LE=1 reads it: the byte at `at` is the
+    /// least significant one (Book I, storage operands). A byte where RAM isn't reads as all ones.
     #[tactic(auto, unfolding(crate::specs::Memory::word_at))]
     pub fn word(&self, at: u64) -> u32
         requires { at < 2 ^ 60 }
