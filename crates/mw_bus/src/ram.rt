@@ -1,11 +1,14 @@
-ghost use Rattle.std.specs.Prelude.{◌≡◌, ℕ, ◌+◌, ◌^◌, ◌<◌, ◌≤◌, List, length, slice_index, slice_set, IfOk, false};
-ghost use Rattle.mw_bus.specs.Memory.{ram_of, word_at, byte_at};
+ghost use Rattle.std.specs.Prelude.{◌≡◌, ℕ, ◌+◌, ◌^◌, ◌<◌, ◌≤◌, List, length, take, drop, slice_index, slice_set, IfOk, false};
+ghost use Rattle.mw_bus.specs.Memory.{ram_of, word_at, byte_at, bytes_at, byte_put, laid, padded};
 
 use std::alloc::{AllocError as NoMemory, Global};
 use std::marker::Model;
 
 /// How many bytes of RAM there are: 16 MiB, at the real addresses from 0 on.
 pub const RAM_SIZE: usize = 16777216;
+
+/// How many real addresses there are. An operand goes on at 0 behind the last one.
+const REAL_SIZE: u64 = 0x1000_0000_0000_0000;
 
 /// The board's RAM, seen as a list of 16,777,216 bytes.
 #[derive(Drop)]
@@ -72,5 +75,49 @@ impl Ram {
             self.byte(at + 2),
             self.byte(at + 3),
         ])
+    }
+
+    /// The bytes of RAM from an index on, as a dump reads them.
+    pub fn slice(&self, at: usize, len: usize) -> &[u8]
+        requires { at + len ≤ 16777216 }
+        ensures { result.now ≡ take len (drop at self.now) }
+    {
+        &self.bytes[at..at + len]
+    }
+
+    /// The first `len` bytes of the result are those from a real address on, and zeros follow. The
+    /// operand goes on at 0 behind the last real address, and a byte where RAM isn't reads as all ones.
+    pub fn read(&self, at: u64, len: usize) -> [u8; 8]
+        requires real { at < 2 ^ 60 }
+        requires short { len ≤ 8 }
+        ensures { result ≡ padded (bytes_at self.now at len) }
+    {
+        let mut bytes = [0; 8];
+        for i in 0..len {
+            bytes[i] = self.byte((at + i as u64) % REAL_SIZE);
+        }
+        bytes
+    }
+
+    /// Sets the byte at a real address, where RAM is.
+    fn put_byte(&mut self, at: u64, byte: u8)
+        ensures { self.new ≡ byte_put self.old at byte }
+    {
+        if at < RAM_SIZE as u64 {
+            self.put(at as u32, byte);
+        }
+    }
+
+    /// Stores the bytes from a real address on, and changes no other byte. The operand goes on at 0
+    /// behind the last real address, and a byte is lost where RAM isn't.
+    pub fn write(&mut self, at: u64, piece: &[u8])
+        requires { at < 2 ^ 60 }
+        ensures { self.new ≡ laid self.old at piece.now }
+    {
+        let mut place = at;
+        for byte in piece {
+            self.put_byte(place, *byte);
+            place = (place + 1) % REAL_SIZE;
+        }
     }
 }

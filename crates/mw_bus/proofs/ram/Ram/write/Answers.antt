@@ -1,0 +1,15 @@
+use Rattle.std.proofs.Common.{◌≡◌, ◌+◌, ◌%◌, ◌^◌, ◌<◌, ◌≤◌, List, length, drop, get_or, sym, ap, ◌∙◌, arith}
+use Rattle.std.proofs.lemmas.List.{drop_all}
+use Rattle.mw_bus.specs.Memory.{laid, byte_put}
+use Rattle.mw_bus.proofs.StorageLemmas.{laid-more, laid-none}
+use Rattle.mw_bus.proofs.ram.Ram.write.Goals as goal
+
+pub loop-byte-preserved : goal.loop-byte-preserved
+loop-byte-preserved c =
+    let below : c.loop-byte.byte-index < length c.args.piece.now = omega arith in
+    (omega arith, laid-more c.args.piece.now c.loop-byte.place c.loop-byte.byte-index c.loop-byte.self c.put_byte.new.self below c.put_byte.ensures ∙ c.loop-byte.invariant.1)
+
+pub returns : goal.returns
+returns c =
+    let past : length c.args.piece.now ≤ c.loop-byte.byte-index = omega arith in
+    sym (laid-none c.loop-byte.self c.loop-byte.place c.args.piece.now c.loop-byte.byte-index past) ∙ c.loop-byte.invariant.1
