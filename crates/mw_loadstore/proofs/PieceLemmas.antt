@@ -95,6 +95,17 @@ pieces_of-each ea len some few = elim (cases_lt 64 (ea % 64 + len)) [
       subst (All IsInOneBlock) (sym (pieces_of-whole ea len within)) (All-cons IsInOneBlock _ [] (some, within) none)
 ]
 
+-- no piece is longer than the access
+pub pieces_of-short : (ea len : ℕ) → All (λ (piece : Piece). piece.len ≤ len) (pieces_of ea len)
+pieces_of-short ea len = elim (cases_lt 64 (ea % 64 + len)) [
+  | inl across ↦
+      let first : room_of ea ≤ len = omega arith in
+      let rest : All (λ (piece : Piece). piece.len ≤ len) (record { ea = (ea + room_of ea) % 2 ^ 64; len = len - room_of ea } ∷ []) = All-cons (λ (piece : Piece). piece.len ≤ len) _ [] (omega arith) (λ k d h. absurd (omega arith)) in
+      subst (All (λ (piece : Piece). piece.len ≤ len)) (sym (pieces_of-cut ea len across)) (All-cons (λ (piece : Piece). piece.len ≤ len) _ (record { ea = (ea + room_of ea) % 2 ^ 64; len = len - room_of ea } ∷ []) first rest)
+  | inr within ↦
+      subst (All (λ (piece : Piece). piece.len ≤ len)) (sym (pieces_of-whole ea len within)) (All-cons (λ (piece : Piece). piece.len ≤ len) _ [] (omega arith) (λ k d h. absurd (omega arith)))
+]
+
 -- there are two at most
 pub pieces_of-few : (ea len : ℕ) → length (pieces_of ea len) ≤ 2
 pieces_of-few ea len = elim (cases_lt 64 (ea % 64 + len)) [

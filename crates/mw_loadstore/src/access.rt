@@ -22,6 +22,7 @@ pub fn pieces(ea: u64, len: u8) -> ArrayVec<Piece, 2>
     ensures whole { sum_by piece_len result.items ≡ len }
     ensures joined { flat_map piece_addresses result.items ≡ addresses_from ea len }
     ensures each { All IsInOneBlock result.items }
+    ensures short { All (λ piece. piece.len ≤ len) result.items }
     ensures at_most_two { length result.items ≤ 2 }
 {
     let mut pieces = ArrayVec::new();
