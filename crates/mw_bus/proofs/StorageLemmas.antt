@@ -159,6 +159,17 @@ bytes_at-laid ram at bytes whole inside =
     ∙ byte_at-laid_own ram at bytes k (omega arith) whole (omega arith) below within
     ∙ get_or_default bytes k 0 d below)
 
+-- what a store doesn't touch reads as before
+pub bytes_at-laid_other : (ram : List ℕ) (at : ℕ) (bytes : List ℕ) (q n : ℕ) → at < 2 ^ 60 → ((i k : ℕ) → i < length bytes → k < n → (at + i) % 2 ^ 60 ≢ (q + k) % 2 ^ 60) → bytes_at (laid ram at bytes) q n ≡ bytes_at ram q n
+bytes_at-laid_other ram at bytes q n real apart =
+    same_lists _ _
+    (length-bytes_at (laid ram at bytes) q n ∙ sym (length-bytes_at ram q n))
+    (λ k d h.
+    let below : k < n = omega (arith, length-bytes_at (laid ram at bytes) q n) in
+    get_or-bytes_at (laid ram at bytes) q n k d below
+    ∙ byte_at-laid_other ram at bytes ((q + k) % 2 ^ 60) real (λ i l. apart i k l below)
+    ∙ sym (get_or-bytes_at ram q n k d below))
+
 -- two stores side by side are one
 pub laid-append : (ram : List ℕ) (at : ℕ) (xs ys : List ℕ) → at < 2 ^ 60 → laid ram at (xs ++ ys) ≡ laid (laid ram at xs) ((at + length xs) % 2 ^ 60) ys
 unfolding laid
