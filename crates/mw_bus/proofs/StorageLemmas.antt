@@ -1,7 +1,7 @@
 -- The laws of reads and stores of several bytes, and of numbers by their bytes.
-use Rattle.std.proofs.Common.{◌≡◌, ◌≢◌, ℕ, zero, suc, ◌+◌, ◌-◌, ◌%◌, ◌^◌, ◌<◌, ◌≤◌, List, [], ◌∷◌, ◌++◌, length, map, take, drop, set, get_or, slice_index, replicate, Bool, true, false, cond, nat_lt, refl, sym, ap, ap₂, ◌∙◌, arith, mod-lt, append_assoc}
+use Rattle.std.proofs.Common.{◌≡◌, ◌≢◌, ℕ, zero, suc, ◌+◌, ◌-◌, ◌%◌, ◌^◌, ◌<◌, ◌≤◌, List, [], ◌∷◌, ◌++◌, length, take, drop, set, get_or, slice_index, replicate, Bool, true, false, cond, nat_lt, refl, sym, ap, ap₂, ◌∙◌, arith, append_assoc}
 use Rattle.std.proofs.Math.Nat.{mod-add-mod, mod-eq_of_lt}
-use Rattle.std.proofs.lemmas.List.{append-nil, length-append, length-set, length-take, length-drop, length_push, get_or_default, get_or-drop, get_or-take, get_or-set_other, get_or-set_same, same_lists, set_at, take_at, at_drop_more, at_drop_all}
+use Rattle.std.proofs.lemmas.List.{append-nil, length-set, length-take, length-drop, length_push, get_or_default, get_or-drop, get_or-take, get_or-set_other, get_or-set_same, same_lists, set_at, take_at, at_drop_more, at_drop_all}
 use Rattle.std.proofs.lemmas.List.FromFn.{length-map-range_with_len, map-range_with_len_more, get_or-map-range_with_len}
 use Rattle.std.proofs.lemmas.Grind.{common_steps}
 use Rattle.std.proofs.lemmas.Bool.Decides.{nat_tests}
@@ -76,16 +76,16 @@ bytes_at_inside ram at n whole inside =
     same_lists _ _
     (length-bytes_at ram at n ∙ sym long)
     (λ k d h.
-      let below : k < n = omega (arith, length-bytes_at ram at n) in
-      let small : at + k < 2 ^ 60 = omega arith in
-      let within : at + k < 16777216 = omega arith in
-      let there : at + k < length ram = omega arith in
-      get_or-bytes_at ram at n k d below
-      ∙ ap (byte_at ram) (mod-eq_of_lt small)
-      ∙ byte_at_inside ram (at + k) within
-      ∙ get_or_default ram (at + k) 0 d there
-      ∙ sym (get_or-drop at ram k d)
-      ∙ sym (get_or-take n (drop at ram) k d below))
+    let below : k < n = omega (arith, length-bytes_at ram at n) in
+    let small : at + k < 2 ^ 60 = omega arith in
+    let within : at + k < 16777216 = omega arith in
+    let there : at + k < length ram = omega arith in
+    get_or-bytes_at ram at n k d below
+    ∙ ap (byte_at ram) (mod-eq_of_lt small)
+    ∙ byte_at_inside ram (at + k) within
+    ∙ get_or_default ram (at + k) 0 d there
+    ∙ sym (get_or-drop at ram k d)
+    ∙ sym (get_or-take n (drop at ram) k d below))
 
 -- a store of a byte keeps RAM's length
 pub length-byte_put : (ram : List ℕ) (at byte : ℕ) → length (byte_put ram at byte) ≡ length ram
@@ -152,12 +152,23 @@ bytes_at-laid ram at bytes whole inside =
     same_lists _ _
     (length-bytes_at (laid ram at bytes) at (length bytes))
     (λ k d h.
-      let below : k < length bytes = omega (arith, length-bytes_at (laid ram at bytes) at (length bytes)) in
-      let small : at + k < 2 ^ 60 = omega arith in
-      let within : (at + k) % 2 ^ 60 < 16777216 = omega (arith, mod-eq_of_lt small) in
-      get_or-bytes_at (laid ram at bytes) at (length bytes) k d below
-      ∙ byte_at-laid_own ram at bytes k (omega arith) whole (omega arith) below within
-      ∙ get_or_default bytes k 0 d below)
+    let below : k < length bytes = omega (arith, length-bytes_at (laid ram at bytes) at (length bytes)) in
+    let small : at + k < 2 ^ 60 = omega arith in
+    let within : (at + k) % 2 ^ 60 < 16777216 = omega (arith, mod-eq_of_lt small) in
+    get_or-bytes_at (laid ram at bytes) at (length bytes) k d below
+    ∙ byte_at-laid_own ram at bytes k (omega arith) whole (omega arith) below within
+    ∙ get_or_default bytes k 0 d below)
+
+-- what a store doesn't touch reads as before
+pub bytes_at-laid_other : (ram : List ℕ) (at : ℕ) (bytes : List ℕ) (q n : ℕ) → at < 2 ^ 60 → ((i k : ℕ) → i < length bytes → k < n → (at + i) % 2 ^ 60 ≢ (q + k) % 2 ^ 60) → bytes_at (laid ram at bytes) q n ≡ bytes_at ram q n
+bytes_at-laid_other ram at bytes q n real apart =
+    same_lists _ _
+    (length-bytes_at (laid ram at bytes) q n ∙ sym (length-bytes_at ram q n))
+    (λ k d h.
+    let below : k < n = omega (arith, length-bytes_at (laid ram at bytes) q n) in
+    get_or-bytes_at (laid ram at bytes) q n k d below
+    ∙ byte_at-laid_other ram at bytes ((q + k) % 2 ^ 60) real (λ i l. apart i k l below)
+    ∙ sym (get_or-bytes_at ram q n k d below))
 
 -- two stores side by side are one
 pub laid-append : (ram : List ℕ) (at : ℕ) (xs ys : List ℕ) → at < 2 ^ 60 → laid ram at (xs ++ ys) ≡ laid (laid ram at xs) ((at + length xs) % 2 ^ 60) ys

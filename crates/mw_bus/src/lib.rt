@@ -1,4 +1,5 @@
-//! The board's RAM: 16 MiB, byte by byte, and the words that a fetch reads.
+//! The board's RAM: 16 MiB, byte by byte, the words that a fetch reads, the operands of loads and stores,
+//! and numbers by their bytes.
 #![tactic(auto)]
 
 mod order;
@@ -69,9 +70,18 @@ mod tests {
     fn numbers_have_two_orders(rt: HostRuntime) {
         assert_eq!(rt; number(true, &[0x12, 0x34]), 0x1234);
         assert_eq!(rt; number(false, &[0x12, 0x34]), 0x3412);
-        assert_eq!(rt; number(true, &[0x80, 0, 0, 0, 0, 0, 0, 1]), 0x8000_0000_0000_0001);
-        assert_eq!(rt; number_bytes(true, 4, 0x1234_5678), [0x12, 0x34, 0x56, 0x78, 0, 0, 0, 0]);
-        assert_eq!(rt; number_bytes(false, 4, 0x1234_5678), [0x78, 0x56, 0x34, 0x12, 0, 0, 0, 0]);
+        assert_eq!(rt;
+            number(true, &[0x80, 0, 0, 0, 0, 0, 0, 1]),
+            0x8000_0000_0000_0001
+        );
+        assert_eq!(rt;
+            number_bytes(true, 4, 0x1234_5678),
+            [0x12, 0x34, 0x56, 0x78, 0, 0, 0, 0]
+        );
+        assert_eq!(rt;
+            number_bytes(false, 4, 0x1234_5678),
+            [0x78, 0x56, 0x34, 0x12, 0, 0, 0, 0]
+        );
         assert_eq!(rt; number_bytes(false, 1, 0xff), [0xff, 0, 0, 0, 0, 0, 0, 0]);
     }
 }

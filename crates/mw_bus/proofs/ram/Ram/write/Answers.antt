@@ -1,6 +1,4 @@
-use Rattle.std.proofs.Common.{◌≡◌, ◌+◌, ◌%◌, ◌^◌, ◌<◌, ◌≤◌, List, length, drop, get_or, sym, ap, ◌∙◌, arith}
-use Rattle.std.proofs.lemmas.List.{drop_all}
-use Rattle.mw_bus.specs.Memory.{laid, byte_put}
+use Rattle.std.proofs.Common.{◌<◌, ◌≤◌, length, sym, ◌∙◌, arith}
 use Rattle.mw_bus.proofs.StorageLemmas.{laid-more, laid-none}
 use Rattle.mw_bus.proofs.ram.Ram.write.Goals as goal
 
