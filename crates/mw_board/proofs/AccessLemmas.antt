@@ -8,14 +8,14 @@ use Rattle.mw_bus.proofs.StorageLemmas.{take-padded, length-bytes_at, length-byt
 pub number-read : (reversed : Bool) (ram : List ℕ) (at real k len n : ℕ) (bytes : List ℕ) → at ≡ real → k ≡ len → bytes ≡ padded (bytes_at ram at k) → n ≡ number_of reversed (length (take k bytes)) (take k bytes) → n ≡ number_of reversed len (bytes_at ram real len)
 number-read reversed ram at real k len n bytes same sized read e =
     let front : take k bytes ≡ bytes_at ram real len =
-        ap (take k) read ∙ take-padded (bytes_at ram at k) k (length-bytes_at ram at k) ∙ ap₂ (bytes_at ram) same sized in
+    ap (take k) read ∙ take-padded (bytes_at ram at k) k (length-bytes_at ram at k) ∙ ap₂ (bytes_at ram) same sized in
     e ∙ ap₂ (λ (i : ℕ) (xs : List ℕ). number_of reversed i xs) (ap length front ∙ length-bytes_at ram real len) front
 
 -- a number that was written
 pub number-written : (reversed : Bool) (ram new bytes : List ℕ) (at real k len low value : ℕ) → at ≡ real → k ≡ len → low ≡ value % 256 ^ len → bytes ≡ padded (bytes_of reversed k low) → new ≡ laid ram at (take k bytes) → new ≡ laid ram real (bytes_of reversed len (value % 256 ^ len))
 number-written reversed ram new bytes at real k len low value same sized is wrote e =
     let front : take k bytes ≡ bytes_of reversed len (value % 256 ^ len) =
-        ap (take k) wrote ∙ take-padded (bytes_of reversed k low) k (length-bytes_of reversed k low) ∙ ap₂ (bytes_of reversed) sized is in
+    ap (take k) wrote ∙ take-padded (bytes_of reversed k low) k (length-bytes_of reversed k low) ∙ ap₂ (bytes_of reversed) sized is in
     e ∙ ap₂ (laid ram) same front
 
 -- the low bytes of a number fit

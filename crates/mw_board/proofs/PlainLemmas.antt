@@ -49,8 +49,8 @@ turns-some state after word suffix insn operands outcome cycle m built o e done 
       built = b;
       cycle = at;
       acts =
-        ap₂ (λ (w : ℕ) (s : Option ℕ). acted (Retire cycle state.regs.cia w s) state) m.word_is m.suffix_is
-        ∙ acted-retire cycle insn outcome state d b x
-        ∙ ap Some (sym a);
+          ap₂ (λ (w : ℕ) (s : Option ℕ). acted (Retire cycle state.regs.cia w s) state) m.word_is m.suffix_is
+          ∙ acted-retire cycle insn outcome state d b x
+          ∙ ap Some (sym a);
       steps = ap (λ (r : Stepped). r.after) (step-known insn outcome state d x) ∙ sym a;
     }

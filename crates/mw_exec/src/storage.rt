@@ -82,7 +82,11 @@ fn updated(row: StorageRow, insn: &Insn) -> Option<u8>
     requires { IsPlaced row.address insn.now }
     ensures { result ≡ (if row.update then Some (operand_of insn.now (base_place row.address)) else None) }
 {
-    if row.update { Some(base(row.address, insn)) } else { None }
+    if row.update {
+        Some(base(row.address, insn))
+    } else {
+        None
+    }
 }
 
 /// The rows that access storage (Book I, fixed-point storage access; Book II, atomic update and cache

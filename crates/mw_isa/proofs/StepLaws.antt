@@ -51,8 +51,8 @@ unfolding acted
 acted-retire cycle insn outcome state d b e =
     let s = step-known insn outcome state d e in
     let t : retires state state.regs.cia (fetched state).word (fetched state).suffix ≡ true =
-        both b (ap (λ (r : Stepped). not (is_some r.trap) && ((state.regs.cia == state.regs.cia) && ((r.word == (fetched state).word) && same_suffix r.suffix (fetched state).suffix))) s
-        ∙ both (eq-eqb state.regs.cia state.regs.cia refl) (both (eq-eqb (fetched state).word (fetched state).word refl) (same_suffix-refl (fetched state).suffix))) in
+    both b (ap (λ (r : Stepped). not (is_some r.trap) && ((state.regs.cia == state.regs.cia) && ((r.word == (fetched state).word) && same_suffix r.suffix (fetched state).suffix))) s
+    ∙ both (eq-eqb state.regs.cia state.regs.cia refl) (both (eq-eqb (fetched state).word (fetched state).word refl) (same_suffix-refl (fetched state).suffix))) in
     ap₂ (λ (c : Bool) (r : Stepped). cond c (Some r.after) None) t s
 
 -- an access leaves the devices

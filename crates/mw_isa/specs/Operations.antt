@@ -63,78 +63,78 @@ block what len = record { what = what; len = len; address = Block; update = fals
 -- what each row does, in the order of the instruction table
 unfoldable pub operations : List Operation
 operations =
-    Adder Addi -- addi
-    ∷ Adder Addis -- addis
-    ∷ Logic Ori -- ori
-    ∷ Branch B -- b
-    ∷ Adder Add -- add
-    ∷ Storage (load 4) -- lwz
-    ∷ Storage (updating (load 4)) -- lwzu
-    ∷ Storage (load 1) -- lbz
-    ∷ Storage (updating (load 1)) -- lbzu
-    ∷ Storage (store 4) -- stw
-    ∷ Storage (updating (store 4)) -- stwu
-    ∷ Storage (store 1) -- stb
-    ∷ Storage (updating (store 1)) -- stbu
-    ∷ Storage (load 2) -- lhz
-    ∷ Storage (updating (load 2)) -- lhzu
-    ∷ Storage (algebraic 2) -- lha
-    ∷ Storage (updating (algebraic 2)) -- lhau
-    ∷ Storage (store 2) -- sth
-    ∷ Storage (updating (store 2)) -- sthu
-    ∷ Storage (load 8) -- ld
-    ∷ Storage (updating (load 8)) -- ldu
-    ∷ Storage (algebraic 4) -- lwa
-    ∷ Storage (store 8) -- std
-    ∷ Storage (updating (store 8)) -- stdu
-    ∷ Storage (indexed (load 8)) -- ldx
-    ∷ Storage (indexed (load 4)) -- lwzx
-    ∷ Storage (updating (indexed (load 8))) -- ldux
-    ∷ Storage (updating (indexed (load 4))) -- lwzux
-    ∷ Storage (indexed (load 1)) -- lbzx
-    ∷ Storage (updating (indexed (load 1))) -- lbzux
-    ∷ Storage (indexed (load 2)) -- lhzx
-    ∷ Storage (updating (indexed (load 2))) -- lhzux
-    ∷ Storage (indexed (algebraic 4)) -- lwax
-    ∷ Storage (indexed (algebraic 2)) -- lhax
-    ∷ Storage (updating (indexed (algebraic 4))) -- lwaux
-    ∷ Storage (updating (indexed (algebraic 2))) -- lhaux
-    ∷ Storage (indexed (reversed_load 8)) -- ldbrx
-    ∷ Storage (indexed (reversed_load 4)) -- lwbrx
-    ∷ Storage (indexed (reversed_load 2)) -- lhbrx
-    ∷ Storage (indexed (store 8)) -- stdx
-    ∷ Storage (indexed (store 4)) -- stwx
-    ∷ Storage (updating (indexed (store 8))) -- stdux
-    ∷ Storage (updating (indexed (store 4))) -- stwux
-    ∷ Storage (indexed (store 1)) -- stbx
-    ∷ Storage (updating (indexed (store 1))) -- stbux
-    ∷ Storage (indexed (store 2)) -- sthx
-    ∷ Storage (updating (indexed (store 2))) -- sthux
-    ∷ Storage (indexed (reversed_store 8)) -- stdbrx
-    ∷ Storage (indexed (reversed_store 4)) -- stwbrx
-    ∷ Storage (indexed (reversed_store 2)) -- sthbrx
-    ∷ Storage (indexed (reserving 4)) -- lwarx
-    ∷ Storage (indexed (reserving 1)) -- lbarx
-    ∷ Storage (indexed (reserving 8)) -- ldarx
-    ∷ Storage (indexed (reserving 2)) -- lharx
-    ∷ Storage (indexed (conditional 4)) -- stwcx.
-    ∷ Storage (indexed (conditional 8)) -- stdcx.
-    ∷ Storage (indexed (conditional 1)) -- stbcx.
-    ∷ Storage (indexed (conditional 2)) -- sthcx.
-    ∷ Storage (indexed (load 4)) -- lwzcix
-    ∷ Storage (indexed (load 2)) -- lhzcix
-    ∷ Storage (indexed (load 1)) -- lbzcix
-    ∷ Storage (indexed (load 8)) -- ldcix
-    ∷ Storage (indexed (store 4)) -- stwcix
-    ∷ Storage (indexed (store 2)) -- sthcix
-    ∷ Storage (indexed (store 1)) -- stbcix
-    ∷ Storage (indexed (store 8)) -- stdcix
-    ∷ Storage (block Clean 1) -- dcbst
-    ∷ Storage (block Clean 1) -- dcbf
-    ∷ Hint -- dcbtst
-    ∷ Hint -- dcbt
-    ∷ Storage (block Icbi 1) -- icbi
-    ∷ Storage (block Zero 64) -- dcbz
+    Adder Addi  -- addi
+    ∷ Adder Addis  -- addis
+    ∷ Logic Ori  -- ori
+    ∷ Branch B  -- b
+    ∷ Adder Add  -- add
+    ∷ Storage (load 4)  -- lwz
+    ∷ Storage (updating (load 4))  -- lwzu
+    ∷ Storage (load 1)  -- lbz
+    ∷ Storage (updating (load 1))  -- lbzu
+    ∷ Storage (store 4)  -- stw
+    ∷ Storage (updating (store 4))  -- stwu
+    ∷ Storage (store 1)  -- stb
+    ∷ Storage (updating (store 1))  -- stbu
+    ∷ Storage (load 2)  -- lhz
+    ∷ Storage (updating (load 2))  -- lhzu
+    ∷ Storage (algebraic 2)  -- lha
+    ∷ Storage (updating (algebraic 2))  -- lhau
+    ∷ Storage (store 2)  -- sth
+    ∷ Storage (updating (store 2))  -- sthu
+    ∷ Storage (load 8)  -- ld
+    ∷ Storage (updating (load 8))  -- ldu
+    ∷ Storage (algebraic 4)  -- lwa
+    ∷ Storage (store 8)  -- std
+    ∷ Storage (updating (store 8))  -- stdu
+    ∷ Storage (indexed (load 8))  -- ldx
+    ∷ Storage (indexed (load 4))  -- lwzx
+    ∷ Storage (updating (indexed (load 8)))  -- ldux
+    ∷ Storage (updating (indexed (load 4)))  -- lwzux
+    ∷ Storage (indexed (load 1))  -- lbzx
+    ∷ Storage (updating (indexed (load 1)))  -- lbzux
+    ∷ Storage (indexed (load 2))  -- lhzx
+    ∷ Storage (updating (indexed (load 2)))  -- lhzux
+    ∷ Storage (indexed (algebraic 4))  -- lwax
+    ∷ Storage (indexed (algebraic 2))  -- lhax
+    ∷ Storage (updating (indexed (algebraic 4)))  -- lwaux
+    ∷ Storage (updating (indexed (algebraic 2)))  -- lhaux
+    ∷ Storage (indexed (reversed_load 8))  -- ldbrx
+    ∷ Storage (indexed (reversed_load 4))  -- lwbrx
+    ∷ Storage (indexed (reversed_load 2))  -- lhbrx
+    ∷ Storage (indexed (store 8))  -- stdx
+    ∷ Storage (indexed (store 4))  -- stwx
+    ∷ Storage (updating (indexed (store 8)))  -- stdux
+    ∷ Storage (updating (indexed (store 4)))  -- stwux
+    ∷ Storage (indexed (store 1))  -- stbx
+    ∷ Storage (updating (indexed (store 1)))  -- stbux
+    ∷ Storage (indexed (store 2))  -- sthx
+    ∷ Storage (updating (indexed (store 2)))  -- sthux
+    ∷ Storage (indexed (reversed_store 8))  -- stdbrx
+    ∷ Storage (indexed (reversed_store 4))  -- stwbrx
+    ∷ Storage (indexed (reversed_store 2))  -- sthbrx
+    ∷ Storage (indexed (reserving 4))  -- lwarx
+    ∷ Storage (indexed (reserving 1))  -- lbarx
+    ∷ Storage (indexed (reserving 8))  -- ldarx
+    ∷ Storage (indexed (reserving 2))  -- lharx
+    ∷ Storage (indexed (conditional 4))  -- stwcx.
+    ∷ Storage (indexed (conditional 8))  -- stdcx.
+    ∷ Storage (indexed (conditional 1))  -- stbcx.
+    ∷ Storage (indexed (conditional 2))  -- sthcx.
+    ∷ Storage (indexed (load 4))  -- lwzcix
+    ∷ Storage (indexed (load 2))  -- lhzcix
+    ∷ Storage (indexed (load 1))  -- lbzcix
+    ∷ Storage (indexed (load 8))  -- ldcix
+    ∷ Storage (indexed (store 4))  -- stwcix
+    ∷ Storage (indexed (store 2))  -- sthcix
+    ∷ Storage (indexed (store 1))  -- stbcix
+    ∷ Storage (indexed (store 8))  -- stdcix
+    ∷ Storage (block Clean 1)  -- dcbst
+    ∷ Storage (block Clean 1)  -- dcbf
+    ∷ Hint  -- dcbtst
+    ∷ Hint  -- dcbt
+    ∷ Storage (block Icbi 1)  -- icbi
+    ∷ Storage (block Zero 64)  -- dcbz
     ∷ []
 
 -- the operand list of an access

@@ -18,9 +18,7 @@ pub use devices::Devices;
 pub use event::{End, Event};
 pub use events::Events;
 pub use memory::{MemOp, MemWhat};
-pub use operation::{
-    AdderRow, Address, BranchRow, LogicRow, Operation, StorageRow, operation_at,
-};
+pub use operation::{AdderRow, Address, BranchRow, LogicRow, Operation, StorageRow, operation_at};
 pub use outcome::{Operands, Outcome, Slot, Target};
 pub use regs::Regs;
 pub use state::State;
