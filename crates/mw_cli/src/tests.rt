@@ -93,6 +93,7 @@ fn a_run_is_printed_whole(rt: HostRuntime) -> Result<(), Fail> {
     let four = "0000000000000004";
     let five = "0000000000000005";
     for (image, cycles, r3, cia, dec) in [
+        (LOOP, 4000000, five, four, "7fc2f6ff"),
         (LOOP, 20000, five, four, "7fffb1df"),
         (LOOP, 3, five, four, "7ffffffc"),
         (SINGLE, 1, five, four, "7ffffffe"),
@@ -196,11 +197,10 @@ fn an_order_is_refused(rt: HostRuntime) -> Result<(), Fail> {
 }
 
 #[test]
-fn the_largest_sizes_are_served(rt: HostRuntime) -> Result<(), Fail> {
+fn the_largest_image_is_served(rt: HostRuntime) -> Result<(), Fail> {
     let alloc = rt.alloc();
     let zeros = vec![in alloc; 0u8; 16777217]?;
     let mut host = SureHost::new(alloc);
-    host.put("img", LOOP)?;
     host.put("over", zeros.as_slice())?;
     host.put("full", zeros.as_slice().split_at(16777216).0)?;
     for (line, want, said) in [
@@ -210,7 +210,6 @@ fn the_largest_sizes_are_served(rt: HostRuntime) -> Result<(), Fail> {
             Status::ImageTooLarge,
             "mw: image exceeds 16777216 bytes\n",
         ),
-        ("run img --cycles 4000000", Status::Done, ""),
     ] {
         let mut out = SureSink::new(alloc);
         let mut err = SureSink::new(alloc);
