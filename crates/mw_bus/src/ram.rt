@@ -1,4 +1,4 @@
-ghost use Rattle.std.specs.Prelude.{◌≡◌, ℕ, ◌+◌, ◌^◌, ◌<◌, ◌≤◌, List, length, slice_index, slice_set, IfOk, false};
+ghost use Rattle.std.specs.Prelude.{◌≡◌, ℕ, ◌+◌, ◌^◌, ◌<◌, ◌≤◌, List, length, take, drop, slice_index, slice_set, IfOk, false};
 ghost use Rattle.mw_bus.specs.Memory.{ram_of, word_at, byte_at};
 
 use std::alloc::{AllocError as NoMemory, Global};
@@ -72,5 +72,13 @@ impl Ram {
             self.byte(at + 2),
             self.byte(at + 3),
         ])
+    }
+
+    /// The bytes of RAM from an index on, as a dump reads them.
+    pub fn slice(&self, at: usize, len: usize) -> &[u8]
+        requires { at + len ≤ 16777216 }
+        ensures { result.now ≡ take len (drop at self.now) }
+    {
+        &self.bytes[at..at + len]
     }
 }
