@@ -1,6 +1,6 @@
 -- When each status comes, from what it says.
-use Rattle.std.proofs.Common.{◌≡◌, ℕ, ◌<◌, ◌≤◌, ◌⊎◌, ◌↔◌, inl, inr, List, length, Option, Some, None, IsSomeAnd, IsTrue, IfSome, refl, sym, ap, ◌∙◌, subst, arith}
-use Rattle.mw_io.specs.Outside.{Rose, content_of}
+use Rattle.std.proofs.Common.{◌≡◌, ℕ, ◌<◌, ◌≤◌, ◌↔◌, inl, inr, List, length, Option, Some, None, IsSomeAnd, IfSome, refl, subst, arith}
+use Rattle.mw_io.specs.Outside.{content_of}
 use Rattle.mw_isa.specs.declared.event.End.{End}
 use Rattle.mw_isa.specs.State.{State}
 use Rattle.mw_isa.specs.Replay.{state_after}
@@ -9,11 +9,11 @@ use Rattle.mw_isa.specs.Reading.{events_of, end_of}
 use Rattle.mw_cli.specs.declared.status.Status.{Status}
 use Rattle.mw_cli.specs.declared.status.Status.TheVariants.{Done, Usage, ReadFault, WriteFault, ImageTooLarge, NoMemory, Unbuilt}
 use Rattle.mw_cli.specs.declared.refusal.Refusal.{Refusal}
-use Rattle.mw_cli.specs.declared.refusal.Refusal.TheVariants.{Unreadable, Unwritable, TooLarge, OutOfMemory, NotBuilt}
+use Rattle.mw_cli.specs.declared.refusal.Refusal.TheVariants.{Unreadable, Unwritable, TooLarge, NotBuilt}
 use Rattle.mw_cli.specs.Command.{Order, order_of}
 use Rattle.mw_cli.specs.Headline.{Prints, SpellsRun}
-use Rattle.mw_cli.specs.Outside.{Reading, Writing, IsImage, TookUnlessFault}
-use Rattle.mw_cli.specs.Answers.{Call, Says, Answers, Asks, YieldsTo, Printed, HasCause, Refused, line_of, IsTooLong, StopsAt, ReachesUnbuilt}
+use Rattle.mw_cli.specs.Outside.{Reading, IsImage, TookUnlessFault}
+use Rattle.mw_cli.specs.Answers.{Call, Says, Answers, Asks, Printed, HasCause, Refused, line_of, IsTooLong, StopsAt, ReachesUnbuilt}
 
 -- what some value has is what the one value has
 at_some : {A : Type 0} (o : Option A) (P : A → Type 0) (x : A) → o ≡ Some x → IsSomeAnd o P → P x

@@ -1,5 +1,5 @@
 -- What was read is the image, and what is printed spells its run.
-use Rattle.std.proofs.Common.{◌≡◌, ℕ, ◌+◌, ◌-◌, ◌<◌, ◌≤◌, List, length, take, Option, Some, None, IfSome, OnSome, IsSomeAnd, refl, sym, ap, ◌∙◌, subst, arith}
+use Rattle.std.proofs.Common.{◌≡◌, ℕ, ◌+◌, ◌<◌, ◌≤◌, List, length, take, Option, Some, None, IfSome, OnSome, IsSomeAnd, refl, sym, ap, ◌∙◌, subst, arith}
 use Rattle.std.proofs.lemmas.List.{take_all, length-take}
 use Rattle.std.specs.List.{range_with_len}
 use Rattle.mw_io.specs.Outside.{content_of}
@@ -10,7 +10,7 @@ use Rattle.mw_isa.specs.Replay.{cycles_of, state_after}
 use Rattle.mw_isa.specs.Unbuilt.{first_unbuilt}
 use Rattle.mw_isa.specs.Runs.{Runs}
 use Rattle.mw_isa.specs.Text.{text_of}
-use Rattle.mw_isa.specs.Reading.{Spells, events_of, end_of}
+use Rattle.mw_isa.specs.Reading.{Spells, events_of}
 use Rattle.mw_cli.specs.Headline.{Prints, SpellsRun}
 
 -- the files that a host tells, if it does

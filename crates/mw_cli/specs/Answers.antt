@@ -1,5 +1,5 @@
 -- What each status says of the call that it ends.
-use Rattle.std.specs.Prelude.{ℕ, ◌≡◌, ◌<◌, ◌≤◌, ◌⊎◌, ◌↔◌, Bool, true, List, [], ◌∷◌, ◌++◌, length, take, Option, Some, None, IsSomeAnd, IsTrue, codes}
+use Rattle.std.specs.Prelude.{ℕ, ◌≡◌, ◌<◌, ◌≤◌, ◌⊎◌, ◌↔◌, List, ◌++◌, length, take, Option, Some, None, IsSomeAnd, IsTrue, codes}
 use Rattle.mw_io.specs.Outside.{Rose, content_of}
 use Rattle.mw_isa.specs.Unbuilt.{first_unbuilt}
 use Rattle.mw_isa.specs.Text.{hex}

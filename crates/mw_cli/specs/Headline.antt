@@ -1,6 +1,6 @@
 -- A text that a run of an image prints: the events and the end that stand in it, and the last state that the machine
 -- gives from them, are a run of the image, and the text is theirs and no more.
-use Rattle.std.specs.Prelude.{ℕ, ◌≡◌, List, Option, None, IsSomeAnd}
+use Rattle.std.specs.Prelude.{ℕ, ◌≡◌, List, None, IsSomeAnd}
 use Rattle.std.specs.List.{range_with_len}
 use Rattle.mw_isa.specs.declared.event.End.{End}
 use Rattle.mw_isa.specs.State.{State}

@@ -1,5 +1,5 @@
 -- What a call of the program's main function was given, and what the outside shows before it and after it.
-use Rattle.std.specs.Prelude.{ℕ, ◌≡◌, ◌<◌, ◌≤◌, ◌⊎◌, Bool, List, length, take, Option, IfSome}
+use Rattle.std.specs.Prelude.{ℕ, ◌≡◌, ◌≤◌, ◌⊎◌, Bool, List, length, take, Option, IfSome}
 use Rattle.mw_io.specs.Outside.{Rose, content_of, with_more}
 use Rattle.mw_cli.specs.Command.{Order}
 

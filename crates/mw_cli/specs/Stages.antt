@@ -1,5 +1,5 @@
 -- What the parts of a run say, each of its own refusals.
-use Rattle.std.specs.Prelude.{ℕ, ◌≡◌, ◌≤◌, ◌⊎◌, Bool, List, length, take}
+use Rattle.std.specs.Prelude.{ℕ, List, take}
 use Rattle.mw_io.specs.Outside.{Rose}
 use Rattle.mw_cli.specs.declared.refusal.Refusal.{Refusal}
 use Rattle.mw_cli.specs.declared.refusal.Refusal.TheVariants.{Unreadable, Unwritable, TooLarge, OutOfMemory, NotBuilt}

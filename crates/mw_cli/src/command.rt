@@ -1,15 +1,15 @@
 ghost use Rattle.std.specs.Prelude.{◌≡◌, ◌≤◌, map, string_bytes, option_map, IfSome, bytes_eq, decimal};
 ghost use Rattle.mw_cli.specs.Command.{order_in, order_of, is_name, number_up_to, order_by};
 
-/// The greatest number of cycles that a run may have.
+/// The greatest number of cycles that a run may be asked for.
 pub const MOST_CYCLES: u64 = 4000000;
 
 /// What the words ask for: a run of an image for a number of cycles.
 #[derive(Clone, Copy)]
 pub struct Command<'a> {
-    /// The image's file.
+    /// The name of the image's file. In an order it is not empty and doesn't begin with a minus.
     pub image: &'a str,
-    /// How many cycles.
+    /// How many cycles the run has. In an order they are at most `MOST_CYCLES`.
     pub cycles: u64,
 }
 
@@ -62,7 +62,9 @@ fn order<'a>(verb: &str, image: &'a str, option: &str, digits: &str) -> Option<C
     }
 }
 
-/// What the words behind the program's name ask for, if they are in the grammar.
+/// What the words behind the program's name ask for, if they are in the grammar: `run IMAGE --cycles N`, each a word of
+/// its own. N is written in decimal digits without a leading zero and is at most `MOST_CYCLES`. `None` says that the
+/// words are no order.
 #[tactic(auto, unfolding(crate::specs::Command::order_of))]
 pub fn read_words(words: &[String]) -> Option<Command<'_>>
     ensures value { option_map order_in result ≡ order_of (map string_bytes words.now) }

@@ -7,6 +7,8 @@ mod refusal;
 mod report;
 mod run;
 mod status;
+#[cfg(test)]
+mod tests;
 
 pub use main_call::mw_main;
 pub use refusal::Refusal;

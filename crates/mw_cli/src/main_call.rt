@@ -54,9 +54,11 @@ fn obey<H: Host, O: Sink, E: Sink>(
     }
 }
 
-/// Does what the words behind the program's name ask for. `run IMAGE --cycles N` reads the image from the
-/// host, runs it from address 0 for N cycles, at most 4,000,000, and writes the text of the run to out.
-/// Any other status than Done leaves its line on err. A failed write to err changes no status.
+/// Does what the words behind the program's name ask for, and answers how the program ends. `run IMAGE --cycles N` reads
+/// the image from the host, at most 16,777,216 bytes, runs it from address 0 for N cycles, at most 4,000,000, and writes
+/// the text of the run to out. `Done` leaves err as it was, and any other status writes its line there. Out takes nothing
+/// under another status, but for `WriteFault` and `NoMemory`, which may leave a front of the text. A failed write to err
+/// changes no status.
 pub fn mw_main<H: Host, O: Sink, E: Sink>(
     alloc: Global,
     words: &[String],

@@ -53,7 +53,7 @@ fn write_one<S: Sink>(sink: &mut S, piece: &[u8])
     write_piece(sink, piece);
 }
 
-/// Tells err that the words are no order.
+/// Writes to err the line `mw: usage`. Where a write fails, err keeps a front of the line.
 pub fn report_usage<S: Sink>(err: &mut S)
     ensures took { TookUnlessFault (writing (S.taken err.old) (S.taken err.new) (S.faults err.old) (S.faults err.new) (S.wants err.old) (S.wants err.new)) (codes "mw: usage\n") }
     ensures faults { S.faults err.old ≤ S.faults err.new }
@@ -62,7 +62,8 @@ pub fn report_usage<S: Sink>(err: &mut S)
     write_one(err, b"mw: usage\n");
 }
 
-/// Tells err why an order was refused.
+/// Writes to err the line of a refusal: its cause, with the image's name or the instruction's address where it has one.
+/// Where a write fails, err keeps a front of the line.
 pub fn report<S: Sink>(err: &mut S, image: &str, refusal: Refusal)
     ensures took { TookUnlessFault (writing (S.taken err.old) (S.taken err.new) (S.faults err.old) (S.faults err.new) (S.wants err.old) (S.wants err.new)) (line_of image.now refusal) }
     ensures faults { S.faults err.old ≤ S.faults err.new }

@@ -72,7 +72,9 @@ fn write_text<S: Sink>(out: &mut S, text: &[u8]) -> Result<(), Refusal>
     }
 }
 
-/// Runs the image of a command and writes the text of the run.
+/// Reads the image of a command, runs it, and writes the text of the run to out, all at the end. An `Err` says which of
+/// the three failed. Out took nothing before the text was whole, and after `Unwritable` or `OutOfMemory` it may have
+/// taken a front of it.
 pub fn run<H: Host, S: Sink>(
     alloc: Global,
     command: &Command<'_>,

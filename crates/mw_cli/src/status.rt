@@ -1,27 +1,27 @@
 ghost use Rattle.std.specs.Prelude.{◌≡◌};
 ghost use Rattle.mw_cli.specs.Numbers.{number_of};
 
-/// How the program ends.
+/// How the program ends. `number` has the numbers.
 #[derive(Clone, Copy, Debug, PartialEq, Eq)]
 pub enum Status {
-    /// The run reached its end, and its text is written.
+    /// The run reached its end, and its text is written. Err took nothing.
     Done,
     /// The words aren't in the grammar.
     Usage,
-    /// The image couldn't be read.
+    /// A call of the host failed, as at a name that isn't among its files.
     ReadFault,
-    /// The text couldn't be written.
+    /// A write to out failed. Out took a front of the text.
     WriteFault,
-    /// The image is longer than RAM.
+    /// The image is longer than RAM, 16,777,216 bytes.
     ImageTooLarge,
-    /// Memory is wanting.
+    /// Memory is wanting. Out took nothing or a front of the text.
     NoMemory,
-    /// An instruction that isn't built was reached.
+    /// The run reaches an instruction that isn't built. Out took nothing.
     Unbuilt,
 }
 
 impl Status {
-    /// The number that the process ends with.
+    /// The number that the process ends with: 0 for `Done`, and 2, 3, 4, 5, 7 and 8 for the others in their order.
     pub fn number(self) -> u8
         ensures { result ≡ number_of self }
     {

@@ -1,4 +1,4 @@
-use Rattle.mw_cli.proofs.WritingLemmas.{both-cases, first-stopped}
+use Rattle.mw_cli.proofs.WritingLemmas.{both-cases}
 use Rattle.mw_cli.proofs.report.write_both.Goals as goal
 
 pub returns-then-write_piece-clause-cases : goal.returns-then-write_piece-clause-cases

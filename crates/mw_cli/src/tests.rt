@@ -1,0 +1,282 @@
+use crate::{Status, mw_main};
+use mw_io::{MemHost, MemSink, RealHost, SureHost, SureSink};
+use std::alloc::{AllocError, Global};
+use std::test::Fail;
+
+/// `addi r3,0,5` at 0, and `b .` at 4, little-endian.
+const LOOP: &[u8] = b"\x05\x00\x60\x38\x00\x00\x00\x48";
+
+/// The first instruction alone: behind it stands the word 0, which isn't built.
+const SINGLE: &[u8] = b"\x05\x00\x60\x38";
+
+/// Three bytes of it: the word 00600005, which isn't built.
+const CUT: &[u8] = b"\x05\x00\x60";
+
+/// The lines between those of the general purpose registers and that of the address.
+const BEFORE: &str = "\
+cr 00000000
+xer 0000000000000000
+lr 0000000000000000
+ctr 0000000000000000
+tar 0000000000000000
+";
+
+/// The lines between that of the address and that of the decrementer.
+const BETWEEN: &str = "\
+msr 9000000000001001
+srr0 0000000000000000
+srr1 0000000000000000
+hsrr0 0000000000000000
+hsrr1 0000000000000000
+dar 0000000000000000
+dsisr 00000000
+";
+
+/// The lines behind that of the decrementer.
+const BEHIND: &str = "\
+pidr 00000000
+sprg0 0000000000000000
+sprg1 0000000000000000
+sprg2 0000000000000000
+sprg3 0000000000000000
+hsprg0 0000000000000000
+hsprg1 0000000000000000
+prtbl 0000000000000000
+uart -
+";
+
+/// The text of so many cycles of the loop, with the digits of r3, of the address and of the decrementer that it leaves.
+fn text_of_loop(
+    alloc: Global,
+    cycles: u64,
+    r3: &str,
+    cia: &str,
+    dec: &str,
+) -> Result<String, AllocError> {
+    let mut text = String::new(alloc);
+    for cycle in 0..cycles {
+        if cycle == 0 {
+            text.push_str("R 0 0000000000000000 38600005\n")?;
+        } else {
+            writeln!(text, "R {cycle} 0000000000000004 48000000")?;
+        }
+    }
+    writeln!(text, "end ran {cycles}")?;
+    for number in 0..32 {
+        if number == 3 {
+            writeln!(text, "r3 {r3}")?;
+        } else {
+            writeln!(text, "r{number} 0000000000000000")?;
+        }
+    }
+    text.push_str(BEFORE)?;
+    writeln!(text, "cia {cia}")?;
+    text.push_str(BETWEEN)?;
+    writeln!(text, "dec {dec}")?;
+    text.push_str(BEHIND)?;
+    Ok(text)
+}
+
+/// The words between blanks.
+fn words_of(alloc: Global, line: &str) -> Result<Vec<String>, AllocError> {
+    let mut words = Vec::new(alloc);
+    for word in line.split(' ') {
+        words.push(String::from_str(alloc, word)?)?;
+    }
+    Ok(words)
+}
+
+#[test]
+fn a_run_is_printed_whole(rt: HostRuntime) -> Result<(), Fail> {
+    let alloc = rt.alloc();
+    let zero = "0000000000000000";
+    let four = "0000000000000004";
+    let five = "0000000000000005";
+    for (image, cycles, r3, cia, dec) in [
+        (LOOP, 4000000, five, four, "7fc2f6ff"),
+        (LOOP, 20000, five, four, "7fffb1df"),
+        (LOOP, 3, five, four, "7ffffffc"),
+        (SINGLE, 1, five, four, "7ffffffe"),
+        (LOOP, 0, zero, zero, "7fffffff"),
+        (b"".as_slice(), 0, zero, zero, "7fffffff"),
+    ] {
+        let mut host = SureHost::new(alloc);
+        host.put("img", image)?;
+        let mut out = SureSink::new(alloc);
+        let mut err = SureSink::new(alloc);
+        let line = format!(in alloc; "run img --cycles {cycles}")?;
+        let words = words_of(alloc, line.as_str())?;
+        let status = mw_main(alloc, words.as_slice(), &mut host, &mut out, &mut err);
+        assert_eq!(rt; status, Status::Done, "{cycles}");
+        let text = text_of_loop(alloc, cycles, r3, cia, dec)?;
+        assert!(rt; out.as_slice() == text.as_bytes(), "{cycles}");
+        assert_eq!(rt; err.as_slice(), b"".as_slice(), "{cycles}");
+    }
+    Ok(())
+}
+
+#[test]
+fn an_order_is_refused(rt: HostRuntime) -> Result<(), Fail> {
+    let alloc = rt.alloc();
+    let usage = "mw: usage\n";
+    for (line, image, want, said) in [
+        ("", LOOP, Status::Usage, usage),
+        ("run", LOOP, Status::Usage, usage),
+        ("run img", LOOP, Status::Usage, usage),
+        ("run img --cycles", LOOP, Status::Usage, usage),
+        ("run img --cycles 3 3", LOOP, Status::Usage, usage),
+        ("run img --cycles=3", LOOP, Status::Usage, usage),
+        ("run img --cycle 3", LOOP, Status::Usage, usage),
+        ("Run img --cycles 3", LOOP, Status::Usage, usage),
+        ("run  --cycles 3", LOOP, Status::Usage, usage),
+        ("run -img --cycles 3", LOOP, Status::Usage, usage),
+        ("run img --cycles ", LOOP, Status::Usage, usage),
+        ("run img --cycles 05", LOOP, Status::Usage, usage),
+        ("run img --cycles 00", LOOP, Status::Usage, usage),
+        ("run img --cycles +5", LOOP, Status::Usage, usage),
+        ("run img --cycles -5", LOOP, Status::Usage, usage),
+        ("run img --cycles 0x5", LOOP, Status::Usage, usage),
+        ("run img --cycles 4000001", LOOP, Status::Usage, usage),
+        (
+            "run img --cycles 18446744073709551617",
+            LOOP,
+            Status::Usage,
+            usage,
+        ),
+        (
+            "run absent --cycles 3",
+            LOOP,
+            Status::ReadFault,
+            "mw: cannot read absent\n",
+        ),
+        (
+            "run img --cycles 5",
+            CUT,
+            Status::Unbuilt,
+            "mw: unbuilt at 0000000000000000\n",
+        ),
+        (
+            "run img --cycles 2",
+            SINGLE,
+            Status::Unbuilt,
+            "mw: unbuilt at 0000000000000004\n",
+        ),
+        (
+            "run img --cycles 1",
+            b"".as_slice(),
+            Status::Unbuilt,
+            "mw: unbuilt at 0000000000000000\n",
+        ),
+    ] {
+        let mut host = MemHost::new(alloc);
+        host.put("img", image)?;
+        let mut out = SureSink::new(alloc);
+        let mut err = SureSink::new(alloc);
+        let words = words_of(alloc, line)?;
+        let status = mw_main(alloc, words.as_slice(), &mut host, &mut out, &mut err);
+        assert_eq!(rt; status, want, "{line}");
+        assert_eq!(rt; out.as_slice(), b"".as_slice(), "{line}");
+        assert_eq!(rt; err.as_slice(), said.as_bytes(), "{line}");
+    }
+    let mut host = RealHost::new(&rt);
+    let mut out = SureSink::new(alloc);
+    let mut err = SureSink::new(alloc);
+    assert_eq!(rt;
+        mw_main(alloc, &[], &mut host, &mut out, &mut err),
+        Status::Usage
+    );
+    let words = words_of(alloc, "run /no/such/image --cycles 3")?;
+    let status = mw_main(alloc, words.as_slice(), &mut host, &mut out, &mut err);
+    assert_eq!(rt; status, Status::ReadFault);
+    assert_eq!(rt; out.as_slice(), b"".as_slice());
+    assert_eq!(rt;
+        err.as_slice(),
+        b"mw: usage\nmw: cannot read /no/such/image\n".as_slice()
+    );
+    Ok(())
+}
+
+#[test]
+fn the_largest_image_is_served(rt: HostRuntime) -> Result<(), Fail> {
+    let alloc = rt.alloc();
+    let zeros = vec![in alloc; 0u8; 16777217]?;
+    let mut host = SureHost::new(alloc);
+    host.put("over", zeros.as_slice())?;
+    host.put("full", zeros.as_slice().split_at(16777216).0)?;
+    for (line, want, said) in [
+        ("run full --cycles 0", Status::Done, ""),
+        (
+            "run over --cycles 0",
+            Status::ImageTooLarge,
+            "mw: image exceeds 16777216 bytes\n",
+        ),
+    ] {
+        let mut out = SureSink::new(alloc);
+        let mut err = SureSink::new(alloc);
+        let words = words_of(alloc, line)?;
+        let status = mw_main(alloc, words.as_slice(), &mut host, &mut out, &mut err);
+        assert_eq!(rt; status, want, "{line}");
+        assert_eq!(rt; out.as_slice().is_empty(), want != Status::Done, "{line}");
+        assert_eq!(rt; err.as_slice(), said.as_bytes(), "{line}");
+    }
+    Ok(())
+}
+
+/// A call of the host, of out and of err each fails in turn, and what status and what bytes on err come of it.
+#[test]
+fn each_call_fails_in_turn(rt: HostRuntime) -> Result<(), Fail> {
+    let alloc = rt.alloc();
+    let never = 99;
+    let unread = "mw: cannot read img\n";
+    for (of_host, of_out, of_err, want, said) in [
+        (0, never, never, Status::ReadFault, unread),
+        (1, never, never, Status::ReadFault, unread),
+        (2, never, never, Status::ReadFault, unread),
+        (3, never, never, Status::Done, ""),
+        (never, 0, never, Status::WriteFault, "mw: cannot write\n"),
+        (never, 1, never, Status::Done, ""),
+        (0, never, 0, Status::ReadFault, ""),
+        (0, never, 1, Status::ReadFault, "mw: cannot read "),
+        (0, never, 2, Status::ReadFault, "mw: cannot read img"),
+        (0, never, 3, Status::ReadFault, unread),
+        (never, 0, 0, Status::WriteFault, ""),
+        (never, never, 0, Status::Done, ""),
+    ] {
+        let mut host = MemHost::new(alloc);
+        host.put("img", LOOP)?;
+        host.fail(of_host)?;
+        let mut out = MemSink::new(alloc);
+        out.fail(of_out)?;
+        let mut err = MemSink::new(alloc);
+        err.fail(of_err)?;
+        let words = words_of(alloc, "run img --cycles 3")?;
+        let status = mw_main(alloc, words.as_slice(), &mut host, &mut out, &mut err);
+        assert_eq!(rt; status, want, "{of_host} {of_out} {of_err}");
+        assert_eq!(rt;
+            out.as_slice().is_empty(),
+            want != Status::Done,
+            "{of_host} {of_out} {of_err}"
+        );
+        assert_eq!(rt;
+            err.as_slice(),
+            said.as_bytes(),
+            "{of_host} {of_out} {of_err}"
+        );
+    }
+    Ok(())
+}
+
+#[test]
+fn a_status_has_its_number(rt: HostRuntime) {
+    for (status, number) in [
+        (Status::Done, 0),
+        (Status::Usage, 2),
+        (Status::ReadFault, 3),
+        (Status::WriteFault, 4),
+        (Status::ImageTooLarge, 5),
+        (Status::NoMemory, 7),
+        (Status::Unbuilt, 8),
+    ] {
+        assert_eq!(rt; status.number(), number);
+    }
+}
