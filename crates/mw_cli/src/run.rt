@@ -9,8 +9,8 @@ use crate::command::Command;
 use crate::refusal::Refusal;
 use mw_bits::Bytes;
 use mw_board::{RunFault, simulate};
-use mw_isa::Span;
 use mw_io::{Host, ReadFault, Sink, SinkFault, read_up_to, write_all};
+use mw_isa::Span;
 use mw_trace::print;
 use std::alloc::Global;
 
