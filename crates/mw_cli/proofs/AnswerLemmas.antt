@@ -1,6 +1,7 @@
 -- When each status comes, from what it says.
 use Rattle.std.proofs.Common.{◌≡◌, ℕ, ◌<◌, ◌≤◌, ◌↔◌, inl, inr, List, length, Option, Some, None, IsSomeAnd, IfSome, refl, subst, arith}
 use Rattle.mw_io.specs.Outside.{content_of}
+use Rattle.mw_isa.specs.declared.access.Span.{Span}
 use Rattle.mw_isa.specs.declared.event.End.{End}
 use Rattle.mw_isa.specs.State.{State}
 use Rattle.mw_isa.specs.Replay.{state_after}
@@ -34,11 +35,11 @@ some_too None P Q h f = h
 some_too (Some x) P Q h f = f x h
 
 -- the image of a text fits, and its run meets only what is built
-spelled : (image text : List ℕ) (n : ℕ) → SpellsRun image n text → (length image ≤ 16777216) × (first_unbuilt image n ≡ None)
+spelled : (image text : List ℕ) (n : ℕ) (dump : Option Span) → SpellsRun image n dump text → (length image ≤ 16777216) × (first_unbuilt image n ≡ None)
 unfolding SpellsRun
-spelled image text n spells =
-    some_gives (end_of text) (λ (end : End). IsSomeAnd (state_after image (events_of text) n) (λ (last : State). Prints image n text end last)) spells (λ end h.
-    some_gives (state_after image (events_of text) n) (λ (last : State). Prints image n text end last) h (λ last p. (p.runs.fits, p.built)))
+spelled image text n dump spells =
+    some_gives (end_of text) (λ (end : End). IsSomeAnd (state_after image (events_of text) n) (λ (last : State). Prints image n dump text end last)) spells (λ end h.
+    some_gives (state_after image (events_of text) n) (λ (last : State). Prints image n dump text end last) h (λ last p. (p.runs.fits, p.built)))
 
 -- the image is the file's content
 is_content : (host : Reading) (order : Order) (told : List ℕ → Option (List ℕ)) (image : List ℕ) → host.files ≡ Some told → IsImage host order image → image ≡ content_of told order.image
@@ -55,10 +56,10 @@ usage-of call NoMemory says = (λ e. cc, λ none. absurd (not_none _ _ says none
 usage-of call Unbuilt says = (λ e. cc, λ none. absurd (not_none _ _ says.1 none))
 
 -- what a run printed, or a front of it, shows of the file's content
-shown : (call : Call) (order : Order) (told : List ℕ → Option (List ℕ)) (image text : List ℕ) → Asks call order told → IsImage call.host order image → SpellsRun image order.cycles text → (length (content_of told order.image) ≤ 16777216) × (first_unbuilt (content_of told order.image) order.cycles ≡ None)
+shown : (call : Call) (order : Order) (told : List ℕ → Option (List ℕ)) (image text : List ℕ) → Asks call order told → IsImage call.host order image → SpellsRun image order.cycles order.dump text → (length (content_of told order.image) ≤ 16777216) × (first_unbuilt (content_of told order.image) order.cycles ≡ None)
 shown call order told image text asks is spells =
     let same = is_content call.host order told image asks.1 is in
-    let facts = spelled image text order.cycles spells in
+    let facts = spelled image text order.cycles order.dump spells in
     subst (λ (bytes : List ℕ). (length bytes ≤ 16777216) × (first_unbuilt bytes order.cycles ≡ None)) same facts
 
 -- a run that was printed

@@ -27,7 +27,7 @@ run-cause host out order image Unwritable is fits silent cause = absurd cause
 run-cause host out order image OutOfMemory is fits silent cause = inl silent
 
 -- the text wasn't written
-pub write-cause : (host : Reading) (out : Writing) (order : Order) (image text : List ℕ) (refusal : Refusal) → IsImage host order image → SpellsRun image order.cycles text → IsWriteRefusal out text refusal → HasCause host out order refusal
+pub write-cause : (host : Reading) (out : Writing) (order : Order) (image text : List ℕ) (refusal : Refusal) → IsImage host order image → SpellsRun image order.cycles order.dump text → IsWriteRefusal out text refusal → HasCause host out order refusal
 write-cause host out order image text Unreadable is spells cause = absurd cause
 write-cause host out order image text TooLarge is spells cause = absurd cause
 write-cause host out order image text (NotBuilt cia) is spells cause = absurd cause

@@ -1,11 +1,11 @@
--- Numbers as words write them.
-use Rattle.std.proofs.Common.{◌≡◌, ℕ, ◌^◌, ◌<◌, ◌≤◌, Bool, true, false, ◌&&◌, cond, nat_le, List, Some, None, Result, Ok, Err, bytes_eq, refl, sym, ap, ap₂, ◌∙◌, arith}
+-- Numbers as words write them, and how many words an order has.
+use Rattle.std.proofs.Common.{◌≡◌, ℕ, ◌^◌, ◌<◌, ◌≤◌, Bool, true, false, ◌&&◌, cond, nat_le, List, [], ◌∷◌, length, Some, None, Result, Ok, Err, bytes_eq, refl, sym, ap, ap₂, ◌∙◌, arith}
 use Rattle.std.specs.Fmt.{decimal}
 use Rattle.std.specs.Str.Parse.{digits_value, ParsesUnsigned}
 use Rattle.std.proofs.lemmas.Fmt.{parse-decimal, decimal_is_IsNumeral}
 use Rattle.std.proofs.lemmas.Slice.Eq.{bytes_eq-Decides}
 use Rattle.std.proofs.lemmas.Bool.{false≢true, leb-true, le-leb}
-use Rattle.mw_cli.specs.Command.{number_up_to}
+use Rattle.mw_cli.specs.Command.{order_of, number_up_to}
 
 -- a word is a number's digits
 written : (n : ℕ) (word : List ℕ) → bytes_eq (decimal n) word ≡ true → decimal n ≡ word
@@ -58,3 +58,15 @@ number-great most n word r fits p is great = none_written most word (λ m small 
     let q : r ≡ Ok m = parse-decimal 64 m word r (omega arith) (omega arith) (sym w) p in
     let same : n ≡ m = cc in
     omega arith)
+
+-- words that aren't four or six are no order
+pub no_order : (words : List (List ℕ)) → (length words ≡ 4 → ⊥) → (length words ≡ 6 → ⊥) → order_of words ≡ None
+unfolding order_of
+no_order [] four six = refl
+no_order (a ∷ []) four six = refl
+no_order (a ∷ b ∷ []) four six = refl
+no_order (a ∷ b ∷ c ∷ []) four six = refl
+no_order (a ∷ b ∷ c ∷ d ∷ []) four six = absurd (four refl)
+no_order (a ∷ b ∷ c ∷ d ∷ e ∷ []) four six = refl
+no_order (a ∷ b ∷ c ∷ d ∷ e ∷ f ∷ []) four six = absurd (six refl)
+no_order (a ∷ b ∷ c ∷ d ∷ e ∷ f ∷ g ∷ others) four six = refl

@@ -3,6 +3,7 @@ use Rattle.std.proofs.Common.{◌≡◌, ℕ, ◌+◌, ◌<◌, ◌≤◌, List,
 use Rattle.std.proofs.lemmas.List.{take_all, length-take}
 use Rattle.std.specs.List.{range_with_len}
 use Rattle.mw_io.specs.Outside.{content_of}
+use Rattle.mw_isa.specs.declared.access.Span.{Span}
 use Rattle.mw_isa.specs.declared.event.Event.{Event}
 use Rattle.mw_isa.specs.declared.event.End.{End}
 use Rattle.mw_isa.specs.State.{State}
@@ -36,15 +37,15 @@ long-image (Some told) later name rest bytes n same start read long =
     (content_of told name, refl, omega (arith, length-take (n + 1) rest))
 
 -- the text of a run spells it
-pub spells-run : (image text : List ℕ) (n : ℕ) (events : List Event) (end : End) (last : State) → Runs image n events end last → text ≡ text_of events end last → Spells text events end → cycles_of events ≡ range_with_len 0 n → first_unbuilt image n ≡ None → SpellsRun image n text
+pub spells-run : (image text : List ℕ) (n : ℕ) (dump : Option Span) (events : List Event) (end : End) (last : State) → Runs image n events end last → text ≡ text_of events end last dump → Spells text events end → cycles_of events ≡ range_with_len 0 n → first_unbuilt image n ≡ None → SpellsRun image n dump text
 unfolding SpellsRun
-spells-run image text n events end last runs whole spells each built =
+spells-run image text n dump events end last runs whole spells each built =
     let back : events ≡ events_of text = sym spells.events_are in
     let after : state_after image (events_of text) n ≡ Some last = ap (λ (es : List Event). state_after image es n) spells.events_are ∙ runs.replayed in
-    let prints : Prints image n text end last = record {
+    let prints : Prints image n dump text end last = record {
       runs = subst (λ (es : List Event). Runs image n es end last) back runs;
-      whole = whole ∙ ap (λ (es : List Event). text_of es end last) back;
+      whole = whole ∙ ap (λ (es : List Event). text_of es end last dump) back;
       each_cycle = ap cycles_of spells.events_are ∙ each;
       built = built;
     } in
-    subst (λ (o : Option End). IsSomeAnd o (λ e. IsSomeAnd (state_after image (events_of text) n) (λ l. Prints image n text e l))) (sym spells.end_is) (subst (λ (o : Option State). IsSomeAnd o (λ l. Prints image n text end l)) (sym after) prints)
+    subst (λ (o : Option End). IsSomeAnd o (λ e. IsSomeAnd (state_after image (events_of text) n) (λ l. Prints image n dump text e l))) (sym spells.end_is) (subst (λ (o : Option State). IsSomeAnd o (λ l. Prints image n dump text end l)) (sym after) prints)

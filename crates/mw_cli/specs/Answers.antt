@@ -20,11 +20,11 @@ pub record Call : Type 0 where
 
 -- out took the text of a run of the file's image
 abbrev pub Printed : Reading → Writing → Order → Type 0
-Printed host out order = (image : List ℕ) × (text : List ℕ) × IsImage host order image × SpellsRun image order.cycles text × Took out text
+Printed host out order = (image : List ℕ) × (text : List ℕ) × IsImage host order image × SpellsRun image order.cycles order.dump text × Took out text
 
 -- out took a front of such a text
 abbrev pub PrintedFront : Reading → Writing → Order → Type 0
-PrintedFront host out order = (image : List ℕ) × (text : List ℕ) × (k : ℕ) × IsImage host order image × SpellsRun image order.cycles text × Took out (take k text)
+PrintedFront host out order = (image : List ℕ) × (text : List ℕ) × (k : ℕ) × IsImage host order image × SpellsRun image order.cycles order.dump text × Took out (take k text)
 
 -- the host's count rose, and over a sound host the file isn't there
 abbrev pub IsUnread : Reading → Order → Type 0

@@ -1,16 +1,19 @@
 -- What the words of the command line say.
-use Rattle.std.specs.Prelude.{ℕ, ◌==◌, Bool, false, not, ◌&&◌, if◌then◌else◌, nat_le, List, [], ◌∷◌, Option, Some, None, option_map, bytes_eq, codes, decimal}
+use Rattle.std.specs.Prelude.{ℕ, ◌+◌, ◌==◌, Bool, false, not, ◌&&◌, if◌then◌else◌, nat_le, List, [], ◌∷◌, Option, Some, None, option_map, option_and_then, bytes_eq, codes, decimal}
+use Rattle.std.specs.List.{before_first, after_first}
 use Rattle.std.specs.Str.Parse.{digits_value}
+use Rattle.mw_isa.specs.declared.access.Span.{Span}
 use Rattle.mw_cli.specs.declared.command.Command.{Command}
 
--- run IMAGE --cycles N: the image's name and the number of cycles
+-- run IMAGE --cycles N, with --dump A:L or without: the image's name, the number of cycles, and the stretch of RAM
 pub record Order : Type 0 where
   pub image : List ℕ
   pub cycles : ℕ
+  pub dump : Option Span
 
 -- the order that the code's object stands for
 abbrev pub order_in : Command → Order
-order_in command = record { image = command.image.now; cycles = command.cycles }
+order_in command = record { image = command.image.now; cycles = command.cycles; dump = command.dump }
 
 -- a name: not empty, and not beginning with a minus
 abbrev pub is_name : List ℕ → Bool
@@ -21,11 +24,32 @@ is_name (first ∷ others) = not (first == 45)
 abbrev pub number_up_to : ℕ → List ℕ → Option ℕ
 number_up_to most word = if bytes_eq (decimal (digits_value 10 word)) word && nat_le (digits_value 10 word) most then Some (digits_value 10 word) else None
 
--- an order of these words, if they are in its grammar
-abbrev pub order_by : List ℕ → List ℕ → List ℕ → List ℕ → Option Order
-order_by verb image option number = if bytes_eq verb (codes "run") && (is_name image && bytes_eq option (codes "--cycles")) then option_map (λ n. record { image = image; cycles = n }) (number_up_to 4000000 number) else None
+-- the stretch of RAM from an address on, if it has a byte and ends in RAM
+abbrev pub span_at : ℕ → ℕ → Option Span
+span_at at len = if nat_le 1 len && nat_le (at + len) 16777216 then Some (record { at = at; len = len }) else None
+
+-- the stretch of RAM that two words name, if they write its address and its length, at most 65,536 bytes
+abbrev pub span_by : List ℕ → List ℕ → Option Span
+span_by at len = option_and_then (λ a. option_and_then (span_at a) (number_up_to 65536 len)) (number_up_to 16777216 at)
+
+-- a colon
+abbrev pub is_colon : ℕ → Bool
+is_colon byte = byte == 58
+
+-- the stretch of RAM that a word A:L names; behind the first colon of a word without one stands nothing, which is no number
+abbrev pub span_of : List ℕ → Option Span
+span_of word = span_by (before_first is_colon word) (after_first is_colon word)
+
+-- the stretch of RAM that an option and its word ask for
+abbrev pub dump_by : List ℕ → List ℕ → Option Span
+dump_by option word = if bytes_eq option (codes "--dump") then span_of word else None
+
+-- an order of these words and a dump, if they are in its grammar
+abbrev pub order_by : List ℕ → List ℕ → List ℕ → List ℕ → Option Span → Option Order
+order_by verb image option number dump = if bytes_eq verb (codes "run") && (is_name image && bytes_eq option (codes "--cycles")) then option_map (λ n. record { image = image; cycles = n; dump = dump }) (number_up_to 4000000 number) else None
 
 -- what the words behind the program's name say, if they are in the grammar
 unfoldable pub order_of : List (List ℕ) → Option Order
-order_of (verb ∷ image ∷ option ∷ number ∷ []) = order_by verb image option number
+order_of (verb ∷ image ∷ option ∷ number ∷ []) = order_by verb image option number None
+order_of (verb ∷ image ∷ option ∷ number ∷ second ∷ word ∷ []) = option_and_then (λ span. order_by verb image option number (Some span)) (dump_by second word)
 order_of words = None

@@ -1,16 +1,26 @@
-ghost use Rattle.std.specs.Prelude.{◌≡◌, ◌≤◌, map, string_bytes, option_map, IfSome, bytes_eq, decimal};
-ghost use Rattle.mw_cli.specs.Command.{order_in, order_of, is_name, number_up_to, order_by};
+ghost use Rattle.std.specs.Prelude.{◌≡◌, ◌+◌, ◌≤◌, map, string_bytes, option_map, IfSome, bytes_eq, decimal};
+ghost use Rattle.mw_cli.specs.Command.{order_in, order_of, is_name, number_up_to, span_by, span_of, dump_by, order_by};
+
+use mw_isa::Span;
 
 /// The greatest number of cycles that a run may be asked for.
 pub const MOST_CYCLES: u64 = 4000000;
 
-/// What the words ask for: a run of an image for a number of cycles.
+/// How many bytes of RAM there are.
+const RAM_SIZE: u64 = 16777216;
+
+/// The greatest number of bytes that a dump may be asked for.
+const MOST_DUMPED: u64 = 65536;
+
+/// What the words ask for: a run of an image for a number of cycles, and a dump.
 #[derive(Clone, Copy)]
 pub struct Command<'a> {
     /// The name of the image's file. In an order it is not empty and doesn't begin with a minus.
     pub image: &'a str,
     /// How many cycles the run has. In an order they are at most `MOST_CYCLES`.
     pub cycles: u64,
+    /// The stretch of RAM that is dumped, if one is. In an order it has 1 to `MOST_DUMPED` bytes, all of them in RAM.
+    pub dump: Option<Span>,
 }
 
 /// Whether a word can be a name: it isn't empty and doesn't begin with a minus.
@@ -47,14 +57,66 @@ fn number(word: &str, most: u64) -> Option<u64>
     Some(number)
 }
 
-/// What four words ask for, if they are in the grammar.
-fn order<'a>(verb: &str, image: &'a str, option: &str, digits: &str) -> Option<Command<'a>>
-    ensures value { option_map order_in result ≡ order_by verb.now image.now option.now digits.now }
+/// The stretch of RAM that two words name, its address and its length, if it is one.
+fn read_parts(at: &str, len: &str) -> Option<Span>
+    ensures value { result ≡ span_by at.now len.now }
+    ensures room { IfSome result (λ span. span.at + span.len ≤ 16777216) }
+{
+    let at = number(at, RAM_SIZE)?;
+    let len = number(len, MOST_DUMPED)?;
+    if len >= 1 && at + len <= RAM_SIZE {
+        Some(Span {
+            at: at as u32,
+            len: len as u32,
+        })
+    } else {
+        None
+    }
+}
+
+/// The stretch of RAM that a word A:L names, if it is one.
+fn read_span(word: &str) -> Option<Span>
+    ensures value { result ≡ span_of word.now }
+    ensures room { IfSome result (λ span. span.at + span.len ≤ 16777216) }
+{
+    match word.split_once(':') {
+        Some((at, len)) => read_parts(at, len),
+        None => None,
+    }
+}
+
+/// The stretch of RAM that an option and its word ask for, if it is a dump's.
+fn read_dump(option: &str, word: &str) -> Option<Span>
+    ensures value { result ≡ dump_by option.now word.now }
+    ensures room { IfSome result (λ span. span.at + span.len ≤ 16777216) }
+{
+    if option == "--dump" {
+        read_span(word)
+    } else {
+        None
+    }
+}
+
+/// What four words and a dump ask for, if the words are in the grammar.
+fn order<'a>(
+    verb: &str,
+    image: &'a str,
+    option: &str,
+    digits: &str,
+    dump: Option<Span>,
+) -> Option<Command<'a>>
+    requires { IfSome dump (λ span. span.at + span.len ≤ 16777216) }
+    ensures value { option_map order_in result ≡ order_by verb.now image.now option.now digits.now dump }
     ensures few { IfSome result (λ command. command.cycles ≤ 4000000) }
+    ensures room { IfSome result (λ command. IfSome command.dump (λ span. span.at + span.len ≤ 16777216)) }
 {
     if verb == "run" && can_name(image) && option == "--cycles" {
         match number(digits, MOST_CYCLES) {
-            Some(cycles) => Some(Command { image, cycles }),
+            Some(cycles) => Some(Command {
+                image,
+                cycles,
+                dump,
+            }),
             None => None,
         }
     } else {
@@ -62,13 +124,12 @@ fn order<'a>(verb: &str, image: &'a str, option: &str, digits: &str) -> Option<C
     }
 }
 
-/// What the words behind the program's name ask for, if they are in the grammar: `run IMAGE --cycles N`, each a word of
-/// its own. N is written in decimal digits without a leading zero and is at most `MOST_CYCLES`. `None` says that the
-/// words are no order.
+/// What the words behind the program's name ask for, if they are in the grammar.
 #[tactic(auto, unfolding(crate::specs::Command::order_of))]
 pub fn read_words(words: &[String]) -> Option<Command<'_>>
     ensures value { option_map order_in result ≡ order_of (map string_bytes words.now) }
     ensures few { IfSome result (λ command. command.cycles ≤ 4000000) }
+    ensures room { IfSome result (λ command. IfSome command.dump (λ span. span.at + span.len ≤ 16777216)) }
 {
     match words {
         [verb, image, option, digits] => order(
@@ -76,7 +137,20 @@ pub fn read_words(words: &[String]) -> Option<Command<'_>>
             image.as_str(),
             option.as_str(),
             digits.as_str(),
+            None,
         ),
+        [verb, image, option, digits, second, word] => {
+            match read_dump(second.as_str(), word.as_str()) {
+                Some(span) => order(
+                    verb.as_str(),
+                    image.as_str(),
+                    option.as_str(),
+                    digits.as_str(),
+                    Some(span),
+                ),
+                None => None,
+            }
+        }
         _ => None,
     }
 }

@@ -56,9 +56,10 @@ fn obey<H: Host, O: Sink, E: Sink>(
 
 /// Does what the words behind the program's name ask for, and answers how the program ends. `run IMAGE --cycles N` reads
 /// the image from the host, at most 16,777,216 bytes, runs it from address 0 for N cycles, at most 4,000,000, and writes
-/// the text of the run to out. `Done` leaves err as it was, and any other status writes its line there. Out takes nothing
-/// under another status, but for `WriteFault` and `NoMemory`, which may leave a front of the text. A failed write to err
-/// changes no status.
+/// the text of the run to out. `--dump A:L` behind it adds the L bytes of RAM from real address A on, as the run leaves
+/// them: L is 1 to 65,536, and A + L at most 16,777,216. `Done` leaves err as it was, and any other status writes its
+/// line there. Out takes nothing under another status, but for `WriteFault` and `NoMemory`, which may leave a front of the
+/// text. A failed write to err changes no status.
 pub fn mw_main<H: Host, O: Sink, E: Sink>(
     alloc: Global,
     words: &[String],

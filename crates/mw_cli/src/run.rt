@@ -1,4 +1,4 @@
-ghost use Rattle.std.specs.Prelude.{◌≡◌, ◌≤◌, length, vec_len, OnOk, IfOk, IfErr, IsTrue};
+ghost use Rattle.std.specs.Prelude.{◌≡◌, ◌+◌, ◌≤◌, length, vec_len, OnOk, IfOk, IfErr, IfSome, IsTrue};
 ghost use Rattle.mw_cli.specs.Command.{order_in};
 ghost use Rattle.mw_cli.specs.Headline.{SpellsRun};
 ghost use Rattle.mw_cli.specs.Outside.{reading, writing, IsImage, Took};
@@ -10,6 +10,7 @@ use crate::refusal::Refusal;
 use mw_bits::Bytes;
 use mw_board::{RunFault, simulate};
 use mw_io::{Host, ReadFault, Sink, SinkFault, read_up_to, write_all};
+use mw_isa::Span;
 use mw_trace::print;
 use std::alloc::Global;
 
@@ -40,10 +41,16 @@ fn load<H: Host>(alloc: Global, command: &Command<'_>, host: &mut H) -> Result<V
 }
 
 /// The text of a run of an image.
-fn text_of_run(alloc: Global, image: &[u8], cycles: u64) -> Result<Bytes, Refusal>
+fn text_of_run(
+    alloc: Global,
+    image: &[u8],
+    cycles: u64,
+    dump: Option<Span>,
+) -> Result<Bytes, Refusal>
     requires fits { length image.now ≤ 16777216 }
     requires few { cycles ≤ 4000000 }
-    ensures text { IfOk result (SpellsRun image.now cycles) }
+    requires room { IfSome dump (λ span. span.at + span.len ≤ 16777216) }
+    ensures text { IfOk result (SpellsRun image.now cycles dump) }
     ensures refused { IfErr result (IsRunRefusal image.now cycles) }
 {
     let run = match simulate(alloc, image, cycles) {
@@ -52,7 +59,7 @@ fn text_of_run(alloc: Global, image: &[u8], cycles: u64) -> Result<Bytes, Refusa
         Err(RunFault::NoMemory) => return Err(Refusal::OutOfMemory),
         Err(RunFault::Unbuilt { cia, .. }) => return Err(Refusal::NotBuilt { cia }),
     };
-    match print(alloc, run.events.as_slice(), &run.end, &run.state, None) {
+    match print(alloc, run.events.as_slice(), &run.end, &run.state, dump) {
         Ok(text) => Ok(text),
         Err(_) => Err(Refusal::OutOfMemory),
     }
@@ -82,6 +89,7 @@ pub fn run<H: Host, S: Sink>(
     out: &mut S,
 ) -> Result<(), Refusal>
     requires few { command.now.cycles ≤ 4000000 }
+    requires room { IfSome command.now.dump (λ span. span.at + span.len ≤ 16777216) }
     ensures printed { OnOk result (Printed (reading (H.files host.old) (H.is_sound host.old) (H.faults host.old) (H.faults host.new)) (writing (S.taken out.old) (S.taken out.new) (S.faults out.old) (S.faults out.new) (S.wants out.old) (S.wants out.new)) (order_in command.now)) }
     ensures refused { IfErr result (HasCause (reading (H.files host.old) (H.is_sound host.old) (H.faults host.old) (H.faults host.new)) (writing (S.taken out.old) (S.taken out.new) (S.faults out.old) (S.faults out.new) (S.wants out.old) (S.wants out.new)) (order_in command.now)) }
     ensures same_files { H.files host.new ≡ H.files host.old }
@@ -94,7 +102,7 @@ pub fn run<H: Host, S: Sink>(
         Ok(image) => image,
         Err(refusal) => return Err(refusal),
     };
-    let text = match text_of_run(alloc, image.as_slice(), command.cycles) {
+    let text = match text_of_run(alloc, image.as_slice(), command.cycles, command.dump) {
         Ok(text) => text,
         Err(refusal) => return Err(refusal),
     };

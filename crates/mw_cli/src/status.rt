@@ -6,7 +6,7 @@ ghost use Rattle.mw_cli.specs.Numbers.{number_of};
 pub enum Status {
     /// The run reached its end, and its text is written. Err took nothing.
     Done,
-    /// The words aren't in the grammar.
+    /// The words aren't `run IMAGE --cycles N` or `run IMAGE --cycles N --dump A:L`.
     Usage,
     /// A call of the host failed, as at a name that isn't among its files.
     ReadFault,

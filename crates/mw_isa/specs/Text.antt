@@ -1,6 +1,7 @@
 -- The text of a run: lines of words, each line ended by a line feed.
-use Rattle.std.specs.Prelude.{ℕ, zero, suc, ◌+◌, ◌/◌, ◌%◌, ◌^◌, if◌then◌else◌, nat_lt, List, [], ◌∷◌, ◌++◌, Some, None, map, codes, decimal, slice_index}
-use Rattle.std.specs.List.{flat_map, join_with_byte, enumerate_from}
+use Rattle.std.specs.Prelude.{ℕ, zero, suc, ◌+◌, ◌-◌, ◌*◌, ◌/◌, ◌%◌, ◌^◌, min, if◌then◌else◌, nat_lt, List, [], ◌∷◌, ◌++◌, take, drop, Option, Some, None, map, codes, decimal, slice_index}
+use Rattle.std.specs.List.{flat_map, join_with_byte, enumerate_from, range_with_len}
+use Rattle.mw_isa.specs.declared.access.Span.{Span}
 use Rattle.mw_isa.specs.declared.event.Event.{Event}
 use Rattle.mw_isa.specs.declared.event.Event.TheVariants.{Retire, Trap, Irq}
 use Rattle.mw_isa.specs.declared.event.End.{End}
@@ -88,10 +89,27 @@ special_words regs devices = program_words regs ++ interrupt_words regs devices 
 abbrev pub uart_words : List (List ℕ)
 uart_words = codes "uart" ∷ codes "-" ∷ []
 
--- the words of the lines behind the end's
+-- the words of the lines behind the end's, up to a dump's
 abbrev pub state_words : State → List (List (List ℕ))
 state_words state = map gpr_words (enumerate_from 0 state.regs.gpr) ++ special_words state.regs state.devices ++ uart_words ∷ []
 
--- the text of a run: the events, the end, the registers and the UART
-unfoldable pub text_of : List Event → End → State → List ℕ
-text_of events end state = flat_map line (map event_words events ++ end_words end ∷ state_words state)
+-- bytes in two hexadecimal digits each
+unfoldable pub hex_bytes : List ℕ → List ℕ
+hex_bytes bytes = flat_map (hex 2) bytes
+
+-- the words of line k of a dump: its first byte's address, and its bytes, 32 or what is left of the dump
+unfoldable pub row_words : List ℕ → Span → ℕ → List (List ℕ)
+row_words ram span k = codes "m" ∷ hex 16 (span.at + 32 * k) ∷ hex_bytes (take (min 32 (span.len - 32 * k)) (drop (span.at + 32 * k) ram)) ∷ []
+
+-- the words of the lines of a dump of RAM
+unfoldable pub dump_words : List ℕ → Span → List (List (List ℕ))
+dump_words ram span = map (row_words ram span) (range_with_len 0 ((span.len + 31) / 32))
+
+-- the words of the lines of the dump, if one is asked for
+abbrev pub asked_words : List ℕ → Option Span → List (List (List ℕ))
+asked_words ram None = []
+asked_words ram (Some span) = dump_words ram span
+
+-- the text of a run: the events, the end, the registers, the UART, and the dump that is asked for
+unfoldable pub text_of : List Event → End → State → Option Span → List ℕ
+text_of events end state dump = flat_map line (map event_words events ++ end_words end ∷ state_words state ++ asked_words state.ram dump)

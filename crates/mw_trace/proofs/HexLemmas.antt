@@ -1,10 +1,12 @@
--- Hexadecimal digits, written from the last one on.
-use Rattle.std.proofs.Common.{◌≡◌, ℕ, suc, ◌+◌, ◌-◌, ◌/◌, ◌%◌, ◌^◌, ◌<◌, ◌≤◌, List, ◌∷◌, length, drop, slice_set, sym, ap, ◌∙◌, arith}
+-- Hexadecimal digits, written from the last one on, and bytes as the crate hex writes them.
+use Rattle.std.proofs.Common.{◌≡◌, ℕ, zero, suc, ◌+◌, ◌-◌, ◌/◌, ◌%◌, ◌^◌, ◌<◌, ◌≤◌, eqb, Bool, true, ◌&&◌, inl, inr, List, [], ◌∷◌, length, drop, slice_index, slice_set, get_or, refl, sym, ap, ◌∙◌, arith}
+use Rattle.std.proofs.lemmas.Bool.{and_parts, cases_lt, eqb-true}
 use Rattle.std.proofs.Math.Nat.{div-div-eq-div-mul, div-one, pow-suc}
 use Rattle.std.proofs.Math.ListN.{length-set}
 use Rattle.std.proofs.Math.Seq.{drop-length}
 use Rattle.std.proofs.lemmas.List.{drop-set}
-use Rattle.mw_isa.specs.Text.{hex, hex_digit}
+use Rattle.hex.specs.Hex.{lower_digits, encode_lower, encode_with}
+use Rattle.mw_isa.specs.Text.{hex, hex_digit, hex_bytes}
 
 -- the digits from a place on are written, and the rest is the number without them
 pub record AreWritten (digits : List ℕ) (number rest place : ℕ) : Type 0 where
@@ -38,3 +40,41 @@ written-more digits number rest place d pos within is w =
       behind = drop-set digits at d inside ∙ ap (λ xs. d ∷ xs) tail ∙ ap (λ n. n ∷ hex k number) digit ∙ sym (ap (λ n. hex n number) longer);
       before = quotient ∙ sym (ap (λ n. number / 16 ^ n) longer);
     }
+
+-- the digits below a bound are those of the crate hex
+same_digits : ℕ → Bool
+same_digits zero = true
+same_digits (suc n) = eqb (slice_index lower_digits n) (hex_digit n) && same_digits n
+
+-- one of them
+same_digit : (n d : ℕ) → same_digits n ≡ true → d < n → slice_index lower_digits d ≡ hex_digit d
+unfolding same_digits
+same_digit zero d h lt = absurd (omega arith)
+same_digit (suc n) d h lt =
+    let parts = and_parts (eqb (slice_index lower_digits n) (hex_digit n)) (same_digits n) h in
+    elim (cases_lt d n) [
+      | inl below ↦ same_digit n d parts.1 below
+      | inr top ↦
+          let e : d ≡ n = omega arith in
+          rw e (eqb-true _ _ parts.0)
+    ]
+
+-- each digit is the crate hex's
+digit-lower : (d : ℕ) → d < 16 → slice_index lower_digits d ≡ hex_digit d
+unfolding same_digits
+digit-lower d small = same_digit 16 d refl small
+
+-- the two digits of a byte
+hex-byte : (b : ℕ) → hex 2 b ≡ hex_digit (b / 16 % 16) ∷ hex_digit (b / 1 % 16) ∷ []
+unfolding hex
+hex-byte b = refl
+
+-- bytes as the crate hex writes them
+pub encode-hex : (bytes : List ℕ) → ((k : ℕ) → get_or bytes k 0 < 256) → encode_lower bytes ≡ hex_bytes bytes
+unfolding encode_with hex_bytes
+encode-hex [] small = refl
+encode-hex (b ∷ rest) small =
+    let byte : b < 256 = small 0 in
+    let high : slice_index lower_digits (b / 16) ≡ hex_digit (b / 16 % 16) = digit-lower (b / 16) (omega arith) ∙ ap hex_digit (let e : b / 16 ≡ b / 16 % 16 = omega arith in e) in
+    let low : slice_index lower_digits (b % 16) ≡ hex_digit (b / 1 % 16) = digit-lower (b % 16) (omega arith) ∙ ap (λ n. hex_digit (n % 16)) (sym (div-one b)) in
+    rw (hex-byte b, high, low) (ap (λ xs. hex_digit (b / 16 % 16) ∷ hex_digit (b / 1 % 16) ∷ xs) (encode-hex rest (λ k. small (suc k))))

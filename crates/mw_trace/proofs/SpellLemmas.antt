@@ -1,11 +1,12 @@
 -- The text of a run spells its events and its end.
-use Rattle.std.proofs.Common.{◌≡◌, ℕ, ◌^◌, ◌<◌, true, ◌&&◌, nat_lt, List, [], ◌∷◌, ◌++◌, Some, None, map, option_and_then, cond, sym, ap, ◌∙◌, subst, refl, append_assoc, All, lit<, is_some}
+use Rattle.std.proofs.Common.{◌≡◌, ℕ, ◌^◌, ◌<◌, true, ◌&&◌, nat_lt, List, [], ◌∷◌, ◌++◌, Option, Some, None, map, option_and_then, cond, sym, ap, ◌∙◌, subst, refl, append_assoc, All, lit<, is_some}
 use Rattle.std.specs.List.{flat_map, join_with_byte}
 use Rattle.std.proofs.lemmas.Grind.{flat_map-append}
 use Rattle.std.proofs.lemmas.Bool.{cond-true, lt-ltb}
 use Rattle.std.proofs.lemmas.List.{append-nil}
 use Rattle.std.proofs.lemmas.List.Elements.{All-head, All-tail}
 use Rattle.std.proofs.lemmas.Slice.Eq.{bytes_eq-Decides}
+use Rattle.mw_isa.specs.declared.access.Span.{Span}
 use Rattle.mw_isa.specs.declared.event.Event.{Event}
 use Rattle.mw_isa.specs.declared.event.Event.TheVariants.{Retire, Trap, Irq}
 use Rattle.mw_isa.specs.declared.event.End.{End}
@@ -15,7 +16,7 @@ use Rattle.mw_isa.specs.declared.vector.Vector.TheVariants.{DataStorage, DataSeg
 use Rattle.mw_isa.specs.Vectors.{address_of}
 use Rattle.mw_isa.specs.Replay.{cycle_of_event}
 use Rattle.mw_isa.specs.State.{State}
-use Rattle.mw_isa.specs.Text.{line, event_words, end_words, state_words, text_of}
+use Rattle.mw_isa.specs.Text.{line, event_words, end_words, state_words, asked_words, text_of}
 use Rattle.mw_isa.specs.Reading.{same_words, vector_at, guess_event, event_of, words_of, end_by, events_in, end_in, more_events, lines_from, lines_of, events_of, end_of, FitsEvent, FitsEnd, Spells}
 use Rattle.mw_trace.specs.Determined.{TextsSpell, TextsDetermine}
 use Rattle.mw_trace.proofs.PieceLemmas.{AreWords, words_of-join, lines_from-line}
@@ -151,29 +152,31 @@ end_by-words (Ran cycle) fits =
     ap (λ n. cond (same_words (end_words (Ran n)) words && nat_lt n (2 ^ 64)) (Some (Ran n)) None) (value-decimal cycle fits)
     ∙ cond-true (same_words words words && nat_lt cycle (2 ^ 64)) (Some (Ran cycle)) None same
 
--- the lines of the events, the end and the state
-text_lines : (events : List Event) (end : End) (state : State) → text_of events end state ≡ flat_map line (map event_words events) ++ (line (end_words end) ++ flat_map line (state_words state))
+-- the lines of the events, the end, and the state with the dump
+text_lines : (events : List Event) (end : End) (state : State) (dump : Option Span) → text_of events end state dump ≡ flat_map line (map event_words events) ++ (line (end_words end) ++ flat_map line (state_words state ++ asked_words state.ram dump))
 unfolding text_of
-text_lines events end state = flat_map-append line (map event_words events) (end_words end ∷ state_words state)
+text_lines events end state dump =
+    ap (flat_map line) (append_assoc (map event_words events) (end_words end ∷ state_words state) (asked_words state.ram dump))
+    ∙ flat_map-append line (map event_words events) (end_words end ∷ state_words state ++ asked_words state.ram dump)
 
 -- the events of a text
-events_of-text_of : (events : List Event) (end : End) (last : State) → All FitsEvent events → FitsEnd end → events_of (text_of events end last) ≡ events
+events_of-text_of : (events : List Event) (end : End) (last : State) (dump : Option Span) → All FitsEvent events → FitsEnd end → events_of (text_of events end last dump) ≡ events
 unfolding events_of lines_of
-events_of-text_of events end last fit fits =
-    let behind = flat_map line (state_words last) in
-    ap (λ t. events_in (lines_from [] t)) (text_lines events end last)
+events_of-text_of events end last dump fit fits =
+    let behind = flat_map line (state_words last ++ asked_words last.ram dump) in
+    ap (λ t. events_in (lines_from [] t)) (text_lines events end last dump)
     ∙ events_in-lines events (line (end_words end) ++ behind) fit
     ∙ ap (λ ls. events ++ events_in ls) (lines_from-line (end_words end) behind (words_of_end end fits))
     ∙ ap (λ o. events ++ more_events o (events_in (lines_from [] behind))) (event_of-end end fits)
     ∙ append-nil events
 
 -- the end of a text
-end_of-text_of : (events : List Event) (end : End) (last : State) → All FitsEvent events → FitsEnd end → end_of (text_of events end last) ≡ Some end
+end_of-text_of : (events : List Event) (end : End) (last : State) (dump : Option Span) → All FitsEvent events → FitsEnd end → end_of (text_of events end last dump) ≡ Some end
 unfolding end_of lines_of
-end_of-text_of events end last fit fits =
-    let behind = flat_map line (state_words last) in
+end_of-text_of events end last dump fit fits =
+    let behind = flat_map line (state_words last ++ asked_words last.ram dump) in
     let first = words_of (join_with_byte 32 (end_words end)) in
-    ap (λ t. end_in (lines_from [] t)) (text_lines events end last)
+    ap (λ t. end_in (lines_from [] t)) (text_lines events end last dump)
     ∙ end_in-lines events (line (end_words end) ++ behind) fit
     ∙ ap end_in (lines_from-line (end_words end) behind (words_of_end end fits))
     ∙ ap (λ o. cond (is_some o) (end_in (lines_from [] behind)) (end_by first)) (event_of-end end fits)
@@ -182,9 +185,9 @@ end_of-text_of events end last fit fits =
 
 -- the text of a run spells its events and its end
 pub texts_spell : TextsSpell
-texts_spell events end last fit fits = record {
-  events_are = events_of-text_of events end last fit fits;
-  end_is = end_of-text_of events end last fit fits;
+texts_spell events end last dump fit fits = record {
+  events_are = events_of-text_of events end last dump fit fits;
+  end_is = end_of-text_of events end last dump fit fits;
 }
 
 -- a text spells only these events and this end
@@ -195,13 +198,13 @@ spells_once text events others end stop first second =
 
 -- two runs of the same text have the same events and the same end
 pub texts_determine : TextsDetermine
-texts_determine events others end stop last final fit fits fit_others fits_stop same =
+texts_determine events others end stop last final dump other fit fits fit_others fits_stop same =
     let P : List ℕ → Type 0 = λ text. Spells text others stop in
-    let second = subst P (sym same) (texts_spell others stop final fit_others fits_stop) in
-    spells_once (text_of events end last) events others end stop (texts_spell events end last fit fits) second
+    let second = subst P (sym same) (texts_spell others stop final other fit_others fits_stop) in
+    spells_once (text_of events end last dump) events others end stop (texts_spell events end last dump fit fits) second
 
 -- what is the text of a run spells its events and its end
-pub spells_from_text : (text : List ℕ) (events : List Event) (end : End) (last : State) → text ≡ text_of events end last → All FitsEvent events → FitsEnd end → Spells text events end
-spells_from_text text events end last is fit fits =
+pub spells_from_text : (text : List ℕ) (events : List Event) (end : End) (last : State) (dump : Option Span) → text ≡ text_of events end last dump → All FitsEvent events → FitsEnd end → Spells text events end
+spells_from_text text events end last dump is fit fits =
     let P : List ℕ → Type 0 = λ t. Spells t events end in
-    subst P (sym is) (texts_spell events end last fit fits)
+    subst P (sym is) (texts_spell events end last dump fit fits)

@@ -1,6 +1,7 @@
-//! The text of a run: its events, its end and the registers, a line each.
+//! The text of a run: its events, its end and the registers, a line each, and a dump of RAM.
 #![tactic(auto)]
 
+mod dump;
 mod laws;
 mod lines;
 mod registers;

@@ -1,6 +1,6 @@
 use super::print;
 use mw_bus::Ram;
-use mw_isa::{Devices, End, Event, Regs, State, Vector};
+use mw_isa::{Devices, End, Event, Regs, Span, State, Vector};
 use std::test::Fail;
 
 /// The whole text of an empty run of no cycle.
@@ -133,6 +133,42 @@ I 20 0000000000000014 0900
 end ran 4000000
 ";
 
+/// The bytes of an image.
+const IMAGE: &[u8] = b"\x05\x00\x60\x38\x00\x00\x00\x48ABCDEFGHIJKLMNOPQRSTUVWXYZ\xfe\xdc\xba\x98";
+
+/// The last line of a dump up to RAM's end.
+const LAST: &str = "\
+m 0000000000ffffe0 0000000000000000000000000000000000000000000000000000000000000000
+";
+
+/// A stretch of the image, and the lines of its dump.
+struct Dump(u32, u32, &'static str);
+
+#[rattlefmt::skip]
+static DUMPS: [Dump; 6] = [
+    Dump(0, 1, "\
+m 0000000000000000 05
+"),
+    Dump(0, 16, "\
+m 0000000000000000 05006038000000484142434445464748
+"),
+    Dump(3, 32, "\
+m 0000000000000003 38000000484142434445464748494a4b4c4d4e4f505152535455565758595afe
+"),
+    Dump(3, 33, "\
+m 0000000000000003 38000000484142434445464748494a4b4c4d4e4f505152535455565758595afe
+m 0000000000000023 dc
+"),
+    Dump(34, 66, "\
+m 0000000000000022 fedcba9800000000000000000000000000000000000000000000000000000000
+m 0000000000000042 0000000000000000000000000000000000000000000000000000000000000000
+m 0000000000000062 0000
+"),
+    Dump(16777214, 2, "\
+m 0000000000fffffe 0000
+"),
+];
+
 #[test]
 fn prints_the_start(rt: HostRuntime) -> Result<(), Fail> {
     let state = State {
@@ -261,5 +297,43 @@ fn prints_each_event(rt: HostRuntime) -> Result<(), Fail> {
         None,
     )?;
     assert!(rt; text.as_slice().starts_with(EVENTS.as_bytes()));
+    Ok(())
+}
+
+#[test]
+fn prints_dumps(rt: HostRuntime) -> Result<(), Fail> {
+    let state = State {
+        regs: Regs::new(),
+        ram: Ram::new(rt.alloc(), IMAGE)?,
+        devices: Devices::new(),
+    };
+    for Dump(at, len, lines) in &DUMPS {
+        assert!(rt; *at <= 16777214 && *len <= 66 && *at + *len <= 16777216);
+        let span = Span { at: *at, len: *len };
+        let text = print(rt.alloc(), &[], &End::Ran { cycle: 0 }, &state, Some(span))?;
+        let (others, dump) = text
+            .as_slice()
+            .split_at(START.len().min(text.as_slice().len()));
+        assert!(rt; others == START.as_bytes());
+        assert!(rt; dump == lines.as_bytes(), "{len} bytes from {at}");
+    }
+    Ok(())
+}
+
+#[test]
+fn prints_the_longest_dump(rt: HostRuntime) -> Result<(), Fail> {
+    let state = State {
+        regs: Regs::new(),
+        ram: Ram::new(rt.alloc(), &[])?,
+        devices: Devices::new(),
+    };
+    let span = Span {
+        at: 16711680,
+        len: 65536,
+    };
+    let text = print(rt.alloc(), &[], &End::Ran { cycle: 0 }, &state, Some(span))?;
+    // each of the 2,048 lines has 84 bytes
+    assert_eq!(rt; text.as_slice().len(), START.len() + 2048 * 84);
+    assert!(rt; text.as_slice().ends_with(LAST.as_bytes()));
     Ok(())
 }

@@ -1,12 +1,16 @@
-ghost use Rattle.std.specs.Prelude.{◌≡◌, ◌<◌, ◌≤◌, ◌∷◌, ◌++◌, length, decimal, OnOk};
-ghost use Rattle.mw_isa.specs.Text.{hex_digit, hex};
+ghost use Rattle.std.specs.Prelude.{◌≡◌, ◌<◌, ◌≤◌, ◌*◌, ◌∷◌, ◌++◌, length, decimal, OnOk};
+ghost use Rattle.mw_isa.specs.Text.{hex_digit, hex, hex_bytes};
 
+use hex::encode_to_slice;
 use itoa::Buffer;
 use mw_bits::Bytes;
 use std::alloc::AllocError as NoMemory;
 
 /// The most hexadecimal digits that a number of 64 bits has.
 const MOST_DIGITS: usize = 16;
+
+/// The most bytes of a dump that stand in one word.
+const MOST_BYTES: usize = 32;
 
 /// The hexadecimal digit of a number below 16, in lower case.
 fn digit_of(value: u8) -> u8
@@ -48,6 +52,27 @@ pub fn add_hex(text: &mut Bytes, digits: usize, number: u64) -> Result<(), NoMem
     let mut word = [b' '; MOST_DIGITS + 1];
     write_hex(&mut word[1..=digits], number);
     text.add(&word[..=digits])
+}
+
+/// Writes the bytes in two hexadecimal digits each.
+fn write_hex_bytes(digits: &mut [u8], bytes: &[u8])
+    requires { length digits.old ≡ 2 * length bytes.now }
+    ensures { digits.new ≡ hex_bytes bytes.now }
+{
+    let Ok(()) = encode_to_slice(bytes, digits) else {
+        unreachable!();
+    };
+}
+
+/// Appends a blank and at most 32 bytes in two hexadecimal digits each.
+pub fn add_hex_bytes(text: &mut Bytes, bytes: &[u8]) -> Result<(), NoMemory>
+    requires { length bytes.now ≤ 32 }
+    ensures { OnOk result (text.new ≡ text.old ++ 32 ∷ hex_bytes bytes.now) }
+{
+    let mut word = [b' '; 2 * MOST_BYTES + 1];
+    let last = 2 * bytes.len();
+    write_hex_bytes(&mut word[1..=last], bytes);
+    text.add(&word[..=last])
 }
 
 /// Appends the number in decimal digits.

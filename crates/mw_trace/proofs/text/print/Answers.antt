@@ -8,5 +8,5 @@ use Rattle.mw_trace.proofs.text.print.Goals as goal
 pub returns-clause-spells : goal.returns-clause-spells
 unfolding text_of
 returns-clause-spells c =
-    let is : c.add_state.new.text ≡ text_of c.args.events.now c.args.end.now (seen c.args.state.now) = grind (arith, common_steps) in
-    spells_from_text c.add_state.new.text c.args.events.now c.args.end.now (seen c.args.state.now) is c.in_ok-add_events.ensures.fit c.in_ok-add_end.ensures.fits
+    let is : c.add_dump.new.text ≡ text_of c.args.events.now c.args.end.now (seen c.args.state.now) c.args.dump = grind (arith, common_steps) in
+    spells_from_text c.add_dump.new.text c.args.events.now c.args.end.now (seen c.args.state.now) c.args.dump is c.in_ok-add_events.ensures.fit c.in_ok-add_end.ensures.fits
