@@ -45,6 +45,33 @@ prtbl 0000000000000000
 uart -
 ";
 
+/// Appends the lines from the end's on: the registers of a number that the board has, with the digits given here, and
+/// zeros in all others.
+fn push_state(
+    text: &mut String,
+    cycles: u64,
+    set: &[(usize, &str)],
+    cia: &str,
+    dec: &str,
+) -> Result<(), AllocError> {
+    writeln!(text, "end ran {cycles}")?;
+    for number in 0..32 {
+        let mut digits = "0000000000000000";
+        for (register, content) in set {
+            if *register == number {
+                digits = *content;
+            }
+        }
+        writeln!(text, "r{number} {digits}")?;
+    }
+    text.push_str(BEFORE)?;
+    writeln!(text, "cia {cia}")?;
+    text.push_str(BETWEEN)?;
+    writeln!(text, "dec {dec}")?;
+    text.push_str(BEHIND)?;
+    Ok(())
+}
+
 /// The text of so many cycles of the loop, with the digits of r3, of the address and of the decrementer that it leaves.
 fn text_of_loop(
     alloc: Global,
@@ -61,19 +88,7 @@ fn text_of_loop(
             writeln!(text, "R {cycle} 0000000000000004 48000000")?;
         }
     }
-    writeln!(text, "end ran {cycles}")?;
-    for number in 0..32 {
-        if number == 3 {
-            writeln!(text, "r3 {r3}")?;
-        } else {
-            writeln!(text, "r{number} 0000000000000000")?;
-        }
-    }
-    text.push_str(BEFORE)?;
-    writeln!(text, "cia {cia}")?;
-    text.push_str(BETWEEN)?;
-    writeln!(text, "dec {dec}")?;
-    text.push_str(BEHIND)?;
+    push_state(&mut text, cycles, &[(3, r3)], cia, dec)?;
     Ok(text)
 }
 
@@ -112,6 +127,51 @@ fn a_run_is_printed_whole(rt: HostRuntime) -> Result<(), Fail> {
         assert!(rt; out.as_slice() == text.as_bytes(), "{cycles}");
         assert_eq!(rt; err.as_slice(), b"".as_slice(), "{cycles}");
     }
+    Ok(())
+}
+
+/// `addi r3,0,256`, `addi r4,0,-1`, `std r4,4(r3)`, `lwz r5,8(r3)`, `lha r6,2(r3)`, `b .`
+const STORING: &[u8] =
+    b"\x00\x01\x60\x38\xff\xff\x80\x38\x04\x00\x83\xf8\x08\x00\xa3\x80\x02\x00\xc3\xa8\x00\x00\x00\x48";
+
+/// The text of 60,000 cycles of it, with the 16 bytes from 256 on.
+fn text_of_storing(alloc: Global) -> Result<String, AllocError> {
+    let mut text = String::new(alloc);
+    text.push_str(
+        "\
+R 0 0000000000000000 38600100
+R 1 0000000000000004 3880ffff
+R 2 0000000000000008 f8830004
+R 3 000000000000000c 80a30008
+R 4 0000000000000010 a8c30002
+",
+    )?;
+    for cycle in 5..60000 {
+        writeln!(text, "R {cycle} 0000000000000014 48000000")?;
+    }
+    let set = [
+        (3, "0000000000000100"),
+        (4, "ffffffffffffffff"),
+        (5, "00000000ffffffff"),
+    ];
+    push_state(&mut text, 60000, &set, "0000000000000014", "7fff159f")?;
+    text.push_str("m 0000000000000100 00000000ffffffffffffffff00000000\n")?;
+    Ok(text)
+}
+
+#[test]
+fn a_store_is_dumped(rt: HostRuntime) -> Result<(), Fail> {
+    let alloc = rt.alloc();
+    let mut host = SureHost::new(alloc);
+    host.put("img", STORING)?;
+    let mut out = SureSink::new(alloc);
+    let mut err = SureSink::new(alloc);
+    let words = words_of(alloc, "run img --cycles 60000 --dump 256:16")?;
+    let status = mw_main(alloc, words.as_slice(), &mut host, &mut out, &mut err);
+    assert_eq!(rt; status, Status::Done);
+    let text = text_of_storing(alloc)?;
+    assert!(rt; out.as_slice() == text.as_bytes());
+    assert_eq!(rt; err.as_slice(), b"".as_slice());
     Ok(())
 }
 
