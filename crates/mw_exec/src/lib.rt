@@ -78,6 +78,7 @@ mod tests {
                     assert_eq!(rt; targets.as_slice(), [target].as_slice(), "{word:x}");
                     assert_eq!(rt; next, *next_wanted, "{word:x}");
                 }
+                Some(Outcome::Memory(_)) => panic!(rt; "{word:x} is an access"),
                 None => panic!(rt; "{word:x} is no instruction"),
             }
         }
@@ -87,6 +88,7 @@ mod tests {
                     assert_eq!(rt; targets.len(), 0, "{word:x}");
                     assert_eq!(rt; next, *next_wanted, "{word:x}");
                 }
+                Some(Outcome::Memory(_)) => panic!(rt; "{word:x} is an access"),
                 None => panic!(rt; "{word:x} is no instruction"),
             }
         }
