@@ -11,7 +11,7 @@ use Rattle.mw_isa.specs.State.{State}
 use Rattle.mw_isa.specs.Devices.{cycle_of}
 use Rattle.mw_isa.specs.Fetch.{fetched}
 use Rattle.mw_isa.specs.Execute.{operands_of, exec_of}
-use Rattle.mw_isa.specs.Step.{Stepped, step, after_of, decoded, builds, is_built, is_built_outcome}
+use Rattle.mw_isa.specs.Step.{Stepped, after_of, decoded, builds, is_built, is_built_outcome}
 use Rattle.mw_isa.specs.Replay.{acted}
 use Rattle.mw_isa.proofs.StepLaws.{step-known, builds-known, builds-not, acted-retire}
 use Rattle.mw_board.specs.Plain.{Turns}

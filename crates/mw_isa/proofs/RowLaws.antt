@@ -1,5 +1,5 @@
 -- What holds of each row of the instruction table.
-use Rattle.std.proofs.Common.{◌≡◌, ℕ, zero, suc, [], ◌∷◌, ◌*◌, ◌<◌, ℤ, pos, List, Option, Some, None, IsSomeAnd, map, option_map, slice_get, length, refl, sym, ap, ◌∙◌, subst, arith}
+use Rattle.std.proofs.Common.{◌≡◌, ℕ, ◌*◌, ◌<◌, ℤ, pos, List, Option, Some, None, IsSomeAnd, map, option_map, slice_get, length, refl, sym, ap, ◌∙◌, subst, arith}
 use Rattle.std.specs.Int.{w64, cast_unsigned}
 use Rattle.std.proofs.lemmas.Option.{slice_get-map}
 use Rattle.mw_decode.specs.declared.insn.Insn.{Insn}

@@ -1,16 +1,13 @@
 -- What each row of the instruction table does, by the unit that does it.
-use Rattle.std.specs.Prelude.{ℕ, Bool, true, false, List, [], ◌∷◌}
+use Rattle.std.specs.Prelude.{ℕ, true, false, List, [], ◌∷◌}
 use Rattle.mw_decode.specs.declared.row.Shape.{Shape}
 use Rattle.mw_decode.specs.declared.row.Shape.TheVariants.{RtRaSi, RaRsUi, Target, RtRaRb, RtDRa, RsDRa, RsRaRb, RaRb}
 use Rattle.mw_isa.specs.declared.memory.MemWhat.{MemWhat}
 use Rattle.mw_isa.specs.declared.memory.MemWhat.TheVariants.{Load, Store, Conditional, Zero, Clean, Icbi}
 use Rattle.mw_isa.specs.declared.operation.Operation.{Operation}
 use Rattle.mw_isa.specs.declared.operation.Operation.TheVariants.{Adder, Logic, Branch, Storage, Hint}
-use Rattle.mw_isa.specs.declared.operation.AdderRow.{AdderRow}
 use Rattle.mw_isa.specs.declared.operation.AdderRow.TheVariants.{Addi, Addis, Add}
-use Rattle.mw_isa.specs.declared.operation.LogicRow.{LogicRow}
 use Rattle.mw_isa.specs.declared.operation.LogicRow.TheVariants.{Ori}
-use Rattle.mw_isa.specs.declared.operation.BranchRow.{BranchRow}
 use Rattle.mw_isa.specs.declared.operation.BranchRow.TheVariants.{B}
 use Rattle.mw_isa.specs.declared.operation.Address.{Address}
 use Rattle.mw_isa.specs.declared.operation.Address.TheVariants.{Displaced, Indexed, Block}

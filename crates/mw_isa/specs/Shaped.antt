@@ -3,8 +3,6 @@ use Rattle.std.specs.Prelude.{ℕ, ◌≡◌, ◌<◌, length}
 use Rattle.mw_decode.specs.declared.insn.Insn.{Insn}
 use Rattle.mw_decode.specs.declared.row.Shape.{Shape}
 use Rattle.mw_decode.specs.declared.row.Shape.TheVariants.{RtRaSi, RaRsUi, Target as Displacement, RtRaRb, RtDRa, RsDRa, RsRaRb, RaRb}
-use Rattle.mw_isa.specs.declared.operation.Operation.{Operation}
-use Rattle.mw_isa.specs.declared.operation.Operation.TheVariants.{Adder, Logic, Branch}
 use Rattle.mw_isa.specs.declared.operation.Address.{Address}
 use Rattle.mw_isa.specs.declared.operation.Address.TheVariants.{Displaced, Indexed, Block}
 use Rattle.mw_isa.specs.Execute.{operand_of}
