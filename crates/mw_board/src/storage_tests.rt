@@ -149,7 +149,7 @@ fn each_row_of_storage_runs(rt: HostRuntime) -> Result<(), Fail> {
 struct Program(&'static [u32], u64, u32, u64, u64, u64);
 
 #[rattlefmt::skip]
-static PROGRAMS: [Program; 8] = [
+static PROGRAMS: [Program; 16] = [
     // addi r5,0,7; addi r3,0,4096; ldarx r4,0,r3; std r3,8(r3); stdcx. r5,0,r3: the plain store leaves the reservation
     Program(&[0x38a0_0007, 0x3860_1000, 0x7c80_18a8, 0xf863_0008, 0x7ca0_19ad], 5, 0x2000_0000, 0, 4096, 7),
     // the same, and addi r8,0,9; stdcx. r8,0,r3: the first store-conditional ended it
@@ -160,6 +160,22 @@ static PROGRAMS: [Program; 8] = [
     Program(&[0x38a0_0007, 0x3860_1000, 0x7c80_18a8, 0x3860_103f, 0x7ca0_1d6d], 5, 0x2000_0000, 0, 4152, 0x0700_0000_0000_0000),
     // ldarx, and stbcx. of the next block: nothing is stored, and the reservation ends
     Program(&[0x38a0_0007, 0x3860_1000, 0x7c80_18a8, 0x3860_1040, 0x7ca0_1d6d], 5, 0, 0, 4160, 0),
+    // the same, and addi r3,0,4096; stdcx. r5,0,r3, which finds no reservation
+    Program(&[0x38a0_0007, 0x3860_1000, 0x7c80_18a8, 0x3860_1040, 0x7ca0_1d6d, 0x3860_1000, 0x7ca0_19ad], 7, 0, 0, 4096, 0),
+    // addi r5,0,-2; addi r3,0,520; lwarx r6,0,r3; stwcx. r5,0,r3
+    Program(&[0x38a0_fffe, 0x3860_0208, 0x7cc0_1828, 0x7ca0_192d], 4, 0x2000_0000, 0x9493_9291, 520, 0x9897_9695_ffff_fffe),
+    // addi r5,0,-2; addi r3,0,520; lharx r6,0,r3; sthcx. r5,0,r3
+    Program(&[0x38a0_fffe, 0x3860_0208, 0x7cc0_18e8, 0x7ca0_1dad], 4, 0x2000_0000, 0x9291, 520, 0x9897_9695_9493_fffe),
+    // addi r0,0,64; lwz r6,520(0): RA=0 stands for zero
+    Program(&[0x3800_0040, 0x80c0_0208], 2, 0, 0x9493_9291, 520, DATA),
+    // addi r0,0,64; addi r3,0,520; ldx r6,0,r3: the same
+    Program(&[0x3800_0040, 0x3860_0208, 0x7cc0_182a], 3, 0, DATA, 520, DATA),
+    // addi r0,0,8; addi r3,0,512; lwzx r6,r3,r0: RB=0 is register 0
+    Program(&[0x3800_0008, 0x3860_0200, 0x7cc3_002e], 3, 0, 0x9493_9291, 520, DATA),
+    // addi r4,0,5; sth r4,520(0); lha r6,520(0): a positive number
+    Program(&[0x3880_0005, 0xb080_0208, 0xa8c0_0208], 3, 0, 5, 520, 0x9897_9695_9493_0005),
+    // addis r3,0,256; stwu r3,8(r3), whose word vanishes; addi r6,r3,0
+    Program(&[0x3c60_0100, 0x9463_0008, 0x38c3_0000], 3, 0, 0x0100_0008, 520, DATA),
     // addi r3,0,545; dcbz 0,r3: the block of 512, whose ninth byte the data is
     Program(&[0x3860_0221, 0x7c00_1fec], 2, 0, 0, 520, 0),
     // addi r3,0,256; addi r4,0,-1; std r4,4(r3) across two stretches; lwz r6,8(r3)
@@ -190,7 +206,7 @@ fn programs_of_accesses(rt: HostRuntime) -> Result<(), Fail> {
 struct Access(&'static [u32], bool);
 
 #[rattlefmt::skip]
-static ACCESSES: [Access; 16] = [
+static ACCESSES: [Access; 21] = [
     // addi r3,0,258: lwarx r6,0,r3, and stwcx. r6,0,r3; lwz r6,0(r3)
     Access(&[0x3860_0102, 0x7cc0_1828], false),
     Access(&[0x3860_0102, 0x7cc0_192d], false),
@@ -207,6 +223,12 @@ static ACCESSES: [Access; 16] = [
     // ld r3,264(0), real byte c0004000: icbi 0,r3, and dcbt 0,r3
     Access(&[0xe860_0108, 0x7c00_1fac], false),
     Access(&[0xe860_0108, 0x7c00_1a2c], true),
+    // lwz at 0, stw at 0, lwz at 4096 and at 8188, all in it; ld at -8
+    Access(&[0xe860_0108, 0x80c3_0000], false),
+    Access(&[0xe860_0108, 0x90c3_0000], false),
+    Access(&[0xe860_0108, 0x80c3_1000], false),
+    Access(&[0xe860_0108, 0x80c3_1ffc], false),
+    Access(&[0xe860_0108, 0xe8c3_fff8], true),
     // lwz at -4, at -1, which isn't aligned, and at 8192, just outside
     Access(&[0xe860_0108, 0x80c3_fffc], true),
     Access(&[0xe860_0108, 0x80c3_ffff], false),

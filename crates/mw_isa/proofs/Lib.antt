@@ -3,3 +3,4 @@ pub mod RowLaws
 pub mod StepLaws
 pub mod ReplayLaws
 pub mod AccessLaws
+pub mod AccessCases
