@@ -7,7 +7,6 @@ use Rattle.std.proofs.lemmas.Grind.{common_steps}
 use Rattle.std.proofs.lemmas.Bool.Decides.{nat_tests}
 use Rattle.byteorder.specs.Endian.{big_number, little_number, big_bytes, little_bytes}
 use Rattle.byteorder.specs.Numbers.{big_from-append, big_from-lt, big_number-reads_back, length-bytes_high_first, length-bytes_low_first, little_from-append, little_from-lt, little_number-reads_back}
-use Rattle.std.specs.Int.{w32, from_be_bytes, from_le_bytes}
 use Rattle.mw_bus.specs.Memory.{four_at, word_at, byte_at, byte_put, bytes_at, laid, number_of, bytes_of, padded}
 
 -- the address behind the next one, a step on from the next
@@ -228,13 +227,8 @@ four_at-bytes_at ram at straight =
 
 -- a word is the number of its four bytes
 pub word_at-number_of : (big : Bool) (ram : List ℕ) (at : ℕ) → at + 3 < 2 ^ 60 → word_at big ram at ≡ number_of big 4 (bytes_at ram at 4)
-unfolding word_at number_of
-word_at-number_of true ram at straight =
-    let same : from_be_bytes w32 (four_at ram at) ≡ big_number 4 (four_at ram at) = omega arith in
-    same ∙ ap (big_number 4) (four_at-bytes_at ram at straight)
-word_at-number_of false ram at straight =
-    let same : from_le_bytes w32 (four_at ram at) ≡ little_number 4 (four_at ram at) = omega arith in
-    same ∙ ap (little_number 4) (four_at-bytes_at ram at straight)
+unfolding word_at
+word_at-number_of big ram at straight = ap (number_of big 4) (four_at-bytes_at ram at straight)
 
 -- a padded operand has 8 bytes
 pub length-padded : (xs : List ℕ) → length xs ≤ 8 → length (padded xs) ≡ 8

@@ -1,6 +1,5 @@
 -- RAM as a list of bytes, and what a real address reads (the board's map; numbers by Book I, storage operands).
 use Rattle.std.specs.Prelude.{ℕ, ◌+◌, ◌-◌, ◌%◌, ◌^◌, List, [], ◌∷◌, ◌++◌, length, map, replicate, Bool, if◌then◌else◌, nat_lt, slice_index, slice_set}
-use Rattle.std.specs.Int.{w32, from_be_bytes, from_le_bytes}
 use Rattle.std.specs.List.{range_with_len}
 use Rattle.byteorder.specs.Endian.{big_number, little_number, big_bytes, little_bytes}
 
@@ -12,13 +11,17 @@ ram_of image = image ++ replicate (16777216 - length image) 0
 abbrev pub byte_at : List ℕ → ℕ → ℕ
 byte_at ram at = if nat_lt at 16777216 then slice_index ram at else 255
 
+-- the number that an operand's first bytes hold, the byte at the lowest address the most significant one where big, and the least one otherwise
+unfoldable pub number_of : Bool → ℕ → List ℕ → ℕ
+number_of big n bytes = if big then big_number n bytes else little_number n bytes
+
 -- the four bytes from a real address on
 abbrev pub four_at : List ℕ → ℕ → List ℕ
 four_at ram at = byte_at ram at ∷ byte_at ram (at + 1) ∷ byte_at ram (at + 2) ∷ byte_at ram (at + 3) ∷ []
 
 -- the word at a real address, its first byte the most significant one where big, and the least one otherwise
 unfoldable pub word_at : Bool → List ℕ → ℕ → ℕ
-word_at big ram at = if big then from_be_bytes w32 (four_at ram at) else from_le_bytes w32 (four_at ram at)
+word_at big ram at = number_of big 4 (four_at ram at)
 
 -- the bytes of an operand of this length from a real address on, one after another, round the end of the 60-bit real address space
 unfoldable pub bytes_at : List ℕ → ℕ → ℕ → List ℕ
@@ -32,10 +35,6 @@ byte_put ram at byte = if nat_lt at 16777216 then slice_set ram at byte else ram
 unfoldable pub laid : List ℕ → ℕ → List ℕ → List ℕ
 laid ram at [] = ram
 laid ram at (byte ∷ bytes) = laid (byte_put ram at byte) ((at + 1) % 2 ^ 60) bytes
-
--- the number that an operand's first bytes hold, the byte at the lowest address the most significant one where big, and the least one otherwise
-unfoldable pub number_of : Bool → ℕ → List ℕ → ℕ
-number_of big n bytes = if big then big_number n bytes else little_number n bytes
 
 -- the operand's bytes for the low bytes of a number, in the order of storage
 unfoldable pub bytes_of : Bool → ℕ → ℕ → List ℕ

@@ -1,6 +1,7 @@
 ghost use Rattle.std.specs.Prelude.{◌≡◌, ℕ, ◌+◌, ◌^◌, ◌<◌, ◌≤◌, List, length, take, drop, slice_index, slice_set, IfOk, false};
 ghost use Rattle.mw_bus.specs.Memory.{ram_of, word_at, byte_at, bytes_at, byte_put, laid, padded};
 
+use byteorder::{ByteOrder, LittleEndian};
 use std::alloc::{AllocError as NoMemory, Global};
 use std::marker::Model;
 
@@ -64,12 +65,12 @@ impl Ram {
 
     /// The 32-bit word at a real address, as a fetch with MSR.LE=1 reads it: the byte at `at` is the
     /// least significant one (Book I, storage operands). A byte where RAM isn't reads as all ones.
-    #[tactic(auto, unfolding(crate::specs::Memory::word_at))]
+    #[tactic(auto, unfolding(crate::specs::Memory::word_at, crate::specs::Memory::number_of))]
     pub fn word(&self, at: u64) -> u32
         requires { at < 2 ^ 60 }
         ensures { result ≡ word_at false self.now at }
     {
-        u32::from_le_bytes([
+        LittleEndian::read_u32(&[
             self.byte(at),
             self.byte(at + 1),
             self.byte(at + 2),

@@ -1,6 +1,6 @@
 -- What a call of the program's main function was given, and what the outside shows before it and after it.
-use Rattle.std.specs.Prelude.{ℕ, ◌≡◌, ◌≤◌, ◌⊎◌, Bool, List, length, take, Option, IfSome}
-use Rattle.mw_io.specs.Outside.{Rose, content_of, with_more}
+use Rattle.std.specs.Prelude.{ℕ, ◌≡◌, ◌≤◌, ◌⊎◌, Bool, List, length, take, Option, IfSome, IsTrue}
+use Rattle.mw_io.specs.Outside.{Rose, IsReadOn, content_of, with_more}
 use Rattle.mw_cli.specs.Command.{Order}
 
 -- a host: its files where it tells them, whether it is sound, and its count of faults before and after
@@ -22,6 +22,10 @@ pub record Writing : Type 0 where
 -- the image is the file's content, where the files are told
 abbrev pub IsImage : Reading → Order → List ℕ → Type 0
 IsImage host order image = IfSome host.files (λ told. image ≡ content_of told order.image)
+
+-- where a file is open, this is what is left of the one of this name: no more was read of it than a byte past RAM's size
+abbrev pub StopsReading : Option (List ℕ → Option (List ℕ)) → Bool → List ℕ → List ℕ → Type 0
+StopsReading files opened rest name = IsTrue opened → IfSome files (λ told. IsReadOn 16777217 (content_of told name) rest)
 
 -- the sink took nothing
 abbrev pub TookNothing : Writing → Type 0

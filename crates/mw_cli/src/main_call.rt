@@ -1,5 +1,6 @@
-ghost use Rattle.std.specs.Prelude.{◌≡◌, ◌≤◌, map, string_bytes, IsTrue};
-ghost use Rattle.mw_cli.specs.Outside.{reading, writing};
+ghost use Rattle.std.specs.Prelude.{◌≡◌, ◌≤◌, map, string_bytes, IfSome, IsTrue};
+ghost use Rattle.mw_cli.specs.Command.{order_of};
+ghost use Rattle.mw_cli.specs.Outside.{reading, writing, StopsReading};
 ghost use Rattle.mw_cli.specs.Answers.{Says, Answers};
 ghost use Rattle.mw_cli.specs.Numbers.{status_of};
 
@@ -38,6 +39,7 @@ fn obey<H: Host, O: Sink, E: Sink>(
       out = writing (O.taken out.old) (O.taken out.new) (O.faults out.old) (O.faults out.new) (O.wants out.old) (O.wants out.new);
       err = writing (E.taken err.old) (E.taken err.new) (E.faults err.old) (E.faults err.new) (E.wants err.old) (E.wants err.new);
     }) result }
+    ensures stops { IfSome (order_of (map string_bytes words.now)) (λ order. StopsReading (H.files host.old) (H.is_open host.new) (H.rest host.new) order.image) }
     ensures same_files { H.files host.new ≡ H.files host.old }
     ensures stays_sound { IsTrue (H.is_sound host.old) → IsTrue (H.is_sound host.new) }
 {
@@ -73,6 +75,7 @@ pub fn mw_main<H: Host, O: Sink, E: Sink>(
       out = writing (O.taken out.old) (O.taken out.new) (O.faults out.old) (O.faults out.new) (O.wants out.old) (O.wants out.new);
       err = writing (E.taken err.old) (E.taken err.new) (E.faults err.old) (E.faults err.new) (E.wants err.old) (E.wants err.new);
     }) result }
+    ensures stops { IfSome (order_of (map string_bytes words.now)) (λ order. StopsReading (H.files host.old) (H.is_open host.new) (H.rest host.new) order.image) }
     ensures same_files { H.files host.new ≡ H.files host.old }
     ensures stays_sound { IsTrue (H.is_sound host.old) → IsTrue (H.is_sound host.new) }
 {

@@ -1,7 +1,7 @@
 ghost use Rattle.std.specs.Prelude.{◌≡◌, ◌+◌, ◌≤◌, length, vec_len, OnOk, IfOk, IfErr, IfSome, IsTrue};
 ghost use Rattle.mw_cli.specs.Command.{order_in};
 ghost use Rattle.mw_cli.specs.Headline.{SpellsRun};
-ghost use Rattle.mw_cli.specs.Outside.{reading, writing, IsImage, Took};
+ghost use Rattle.mw_cli.specs.Outside.{reading, writing, IsImage, StopsReading, Took};
 ghost use Rattle.mw_cli.specs.Answers.{Printed, HasCause};
 ghost use Rattle.mw_cli.specs.Stages.{IsLoadRefusal, IsRunRefusal, IsWriteRefusal};
 
@@ -22,6 +22,7 @@ fn load<H: Host>(alloc: Global, command: &Command<'_>, host: &mut H) -> Result<V
     ensures image { IfOk result (λ bytes. IsImage (reading (H.files host.old) (H.is_sound host.old) (H.faults host.old) (H.faults host.new)) (order_in command.now) bytes.items) }
     ensures fits { IfOk result (λ bytes. length bytes.items ≤ 16777216) }
     ensures refused { IfErr result (IsLoadRefusal (reading (H.files host.old) (H.is_sound host.old) (H.faults host.old) (H.faults host.new)) (order_in command.now)) }
+    ensures stops { StopsReading (H.files host.old) (H.is_open host.new) (H.rest host.new) command.now.image.now }
     ensures same_files { H.files host.new ≡ H.files host.old }
     ensures later { H.faults host.old ≤ H.faults host.new }
     ensures stays_sound { IsTrue (H.is_sound host.old) → IsTrue (H.is_sound host.new) }
@@ -92,6 +93,7 @@ pub fn run<H: Host, S: Sink>(
     requires room { IfSome command.now.dump (λ span. span.at + span.len ≤ 16777216) }
     ensures printed { OnOk result (Printed (reading (H.files host.old) (H.is_sound host.old) (H.faults host.old) (H.faults host.new)) (writing (S.taken out.old) (S.taken out.new) (S.faults out.old) (S.faults out.new) (S.wants out.old) (S.wants out.new)) (order_in command.now)) }
     ensures refused { IfErr result (HasCause (reading (H.files host.old) (H.is_sound host.old) (H.faults host.old) (H.faults host.new)) (writing (S.taken out.old) (S.taken out.new) (S.faults out.old) (S.faults out.new) (S.wants out.old) (S.wants out.new)) (order_in command.now)) }
+    ensures stops { StopsReading (H.files host.old) (H.is_open host.new) (H.rest host.new) command.now.image.now }
     ensures same_files { H.files host.new ≡ H.files host.old }
     ensures later { H.faults host.old ≤ H.faults host.new }
     ensures stays_sound { IsTrue (H.is_sound host.old) → IsTrue (H.is_sound host.new) }

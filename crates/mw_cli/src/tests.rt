@@ -378,6 +378,14 @@ fn each_call_fails_in_turn(rt: HostRuntime) -> Result<(), Fail> {
     let alloc = rt.alloc();
     let never = 99;
     let unread = "mw: cannot read img\n";
+    let text = text_of_loop(
+        alloc,
+        20000,
+        "0000000000000005",
+        "0000000000000004",
+        "7fffb1df",
+    )?;
+    // of the host: to open the file, to read it, to see its end; of out: to take the text; of err: a piece of the line
     for (of_host, of_out, of_err, want, said) in [
         (0, never, never, Status::ReadFault, unread),
         (1, never, never, Status::ReadFault, unread),
@@ -399,14 +407,17 @@ fn each_call_fails_in_turn(rt: HostRuntime) -> Result<(), Fail> {
         out.fail(of_out)?;
         let mut err = MemSink::new(alloc);
         err.fail(of_err)?;
-        let words = words_of(alloc, "run img --cycles 3")?;
+        let words = words_of(alloc, "run img --cycles 20000")?;
         let status = mw_main(alloc, words.as_slice(), &mut host, &mut out, &mut err);
         assert_eq!(rt; status, want, "{of_host} {of_out} {of_err}");
-        assert_eq!(rt;
-            out.as_slice().is_empty(),
-            want != Status::Done,
-            "{of_host} {of_out} {of_err}"
-        );
+        if want == Status::Done {
+            assert!(rt;
+                out.as_slice() == text.as_bytes(),
+                "{of_host} {of_out} {of_err}"
+            );
+        } else {
+            assert!(rt; out.as_slice().is_empty(), "{of_host} {of_out} {of_err}");
+        }
         assert_eq!(rt;
             err.as_slice(),
             said.as_bytes(),
