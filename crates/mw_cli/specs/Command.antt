@@ -36,7 +36,8 @@ span_by at len = option_and_then (λ a. option_and_then (span_at a) (number_up_t
 abbrev pub is_colon : ℕ → Bool
 is_colon byte = byte == 58
 
--- the stretch of RAM that a word A:L names; behind the first colon of a word without one stands nothing, which is no number
+-- the stretch of RAM that a word A:L names, cut at its first colon; a word without one leaves nothing for L, which is
+-- no number
 abbrev pub span_of : List ℕ → Option Span
 span_of word = span_by (before_first is_colon word) (after_first is_colon word)
 
