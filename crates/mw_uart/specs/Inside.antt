@@ -1,5 +1,10 @@
 -- What is true of the UART's parts at every time. Only proofs in this crate need it.
-use Rattle.std.specs.Prelude.{ℕ, ◌+◌, ◌*◌, ◌^◌, ◌<◌, ◌≤◌}
+use Rattle.std.specs.Prelude.{◌≡◌, ℕ, ◌+◌, ◌*◌, ◌^◌, ◌<◌, ◌≤◌, length}
+use Rattle.circular_buffer.specs.Buffer.{Buffer}
+
+-- a queue of at most 16 bytes
+abbrev pub IsQueue : Buffer ℕ → Type 0
+IsQueue queue = (queue.capacity ≡ 16) × (length queue.items ≤ 16)
 
 -- the time that the output took, so that there is always room for it: how many bytes are sent, how many wait, when the first of these is sent, the cycle, and the room
 pub record IsTimed (sent waiting due cycle room : ℕ) : Type 0 where

@@ -35,15 +35,15 @@ pub struct Uart {
 }
 
 impl Model for Uart {
-    ghost use Rattle.std.specs.Prelude.{◌≡◌, ◌≤◌, ◌<◌, [], length, vec_capacity};
+    ghost use Rattle.std.specs.Prelude.{◌≤◌, ◌<◌, [], length, vec_capacity};
     ghost use Rattle.mw_uart.specs.UartData.{Roomy};
-    ghost use Rattle.mw_uart.specs.Inside.{IsTimed};
+    ghost use Rattle.mw_uart.specs.Inside.{IsQueue, IsTimed};
 
     ghost Value = { Roomy };
 
     ghost view = { λ u. record { uart = record { cycle = u.cycle; script = []; received = u.received.items; sending = u.sending.items; due = u.due; div = u.div; enable = u.enable; output = u.output.items }; room = u.room } };
 
-    ghost invariant = { λ u. (u.received.capacity ≡ 16) × (u.sending.capacity ≡ 16) × (length u.received.items ≤ 16) × (length u.sending.items ≤ 16) × (u.enable < 4) × (u.room ≤ vec_capacity u.output) × IsTimed (length u.output.items) (length u.sending.items) u.due u.cycle u.room };
+    ghost invariant = { λ u. IsQueue u.received × IsQueue u.sending × (u.enable < 4) × (u.room ≤ vec_capacity u.output) × IsTimed (length u.output.items) (length u.sending.items) u.due u.cycle u.room };
 }
 
 /// How many of `waiting` bytes are sent by a cycle, the first of them at `due` and one more each
