@@ -1,10 +1,10 @@
 -- The laws of the UART at any cycle.
-use Rattle.std.proofs.Common.{◌≡◌, ℕ, zero, suc, ◌+◌, ◌-◌, ◌*◌, ◌<◌, ◌≤◌, ◌==◌, Bool, true, false, cond, nat_le, leb, inl, inr, ⊎_elim, List, [], ◌∷◌, ◌++◌, length, map, take, drop, refl, sym, ap, ap₂, subst, zero-add, ◌∙◌, arith, append_assoc, take-add, drop-drop, length-drop, le-leb}
+use Rattle.std.proofs.Common.{◌≡◌, ℕ, zero, suc, ◌+◌, ◌-◌, ◌*◌, ◌%◌, ◌^◌, ◌<◌, ◌≤◌, ◌==◌, Bool, true, false, ◌||◌, cond, nat_lt, nat_le, leb, inl, inr, ⊎_elim, List, [], ◌∷◌, ◌++◌, length, map, take, drop, refl, sym, ap, ap₂, subst, zero-add, ◌∙◌, arith, append_assoc, take-add, drop-drop, length-drop, le-leb}
 use Rattle.std.proofs.lemmas.List.{map-append}
-use Rattle.std.proofs.lemmas.Bool.{cases_lt, cond-true, cond-false, lt-leb}
+use Rattle.std.proofs.lemmas.Bool.{eqb-true, or_cases, cond_both, cases_lt, cond-true, cond-false, lt-leb}
 use Rattle.mw_uart.specs.UartData.{UartData, start_uart, period_of}
 use Rattle.mw_uart.specs.UartAt.{arrived_by, arrivals, sent_by, next_due, sent_of, uart_at}
-use Rattle.mw_uart.specs.Registers.{after_store, with_number, with_tx}
+use Rattle.mw_uart.specs.Registers.{after_load, after_store, with_number, with_tx}
 use Rattle.mw_bus.specs.Memory.{number_of}
 use Rattle.mw_uart.specs.Inside.{IsSent}
 use Rattle.mw_uart.proofs.SentLemmas.{is_sent, sent_once, due_later, due_none}
@@ -15,33 +15,33 @@ sent_then waiting due period cycle later m n after first second =
     let sum : (m + n) * period ≡ m * period + n * period = omega arith in
     ⊎_elim
     (λ (more : m < waiting).
-      let next : next_due waiting due period m ≡ due + m * period = due_later waiting due period m more in
-      record {
-        most = omega (arith, second.most);
-        rest = λ h.
+    let next : next_due waiting due period m ≡ due + m * period = due_later waiting due period m more in
+    record {
+      most = omega (arith, second.most);
+      rest = λ h.
           let l : later < next_due waiting due period m + n * period = second.rest (omega arith) in
           omega arith;
-        done = λ h. ⊎_elim
+      done = λ h. ⊎_elim
           (λ (none : n < 1).
-            let no_more : n ≡ 0 = omega arith in
-            let e : n * period ≡ 0 * period = ap (λ (k : ℕ). k * period) no_more in
-            let l : due + m * period ≤ cycle + period = first.done (omega arith) in
-            omega arith)
+          let no_more : n ≡ 0 = omega arith in
+          let e : n * period ≡ 0 * period = ap (λ (k : ℕ). k * period) no_more in
+          let l : due + m * period ≤ cycle + period = first.done (omega arith) in
+          omega arith)
           (λ (some : 1 ≤ n).
-            let l : next_due waiting due period m + n * period ≤ later + period = second.done some in
-            omega arith)
+          let l : next_due waiting due period m + n * period ≤ later + period = second.done some in
+          omega arith)
           (cases_lt n 1);
-      })
+    })
     (λ (all : waiting ≤ m).
-      let no_more : n ≡ 0 = omega (arith, second.most) in
-      let e : n * period ≡ 0 * period = ap (λ (k : ℕ). k * period) no_more in
-      record {
-        most = omega (arith, first.most);
-        rest = λ h. absurd (omega arith);
-        done = λ h.
+    let no_more : n ≡ 0 = omega (arith, second.most) in
+    let e : n * period ≡ 0 * period = ap (λ (k : ℕ). k * period) no_more in
+    record {
+      most = omega (arith, first.most);
+      rest = λ h. absurd (omega arith);
+      done = λ h.
           let l : due + m * period ≤ cycle + period = first.done (omega arith) in
           omega arith;
-      })
+    })
     (cases_lt m waiting)
 
 -- the count of sent bytes in two steps
@@ -58,14 +58,14 @@ due_then : (waiting due period m n : ℕ) → m ≤ waiting → n ≤ waiting - 
 due_then waiting due period m n few rest =
     ⊎_elim
     (λ (more : n < waiting - m).
-      let sum : (m + n) * period ≡ m * period + n * period = omega arith in
-      let a : next_due (waiting - m) (next_due waiting due period m) period n ≡ next_due waiting due period m + n * period = due_later (waiting - m) (next_due waiting due period m) period n more in
-      let b : next_due waiting due period m ≡ due + m * period = due_later waiting due period m (omega arith) in
-      let d : next_due waiting due period (m + n) ≡ due + (m + n) * period = due_later waiting due period (m + n) (omega arith) in
-      omega arith)
+    let sum : (m + n) * period ≡ m * period + n * period = omega arith in
+    let a : next_due (waiting - m) (next_due waiting due period m) period n ≡ next_due waiting due period m + n * period = due_later (waiting - m) (next_due waiting due period m) period n more in
+    let b : next_due waiting due period m ≡ due + m * period = due_later waiting due period m (omega arith) in
+    let d : next_due waiting due period (m + n) ≡ due + (m + n) * period = due_later waiting due period (m + n) (omega arith) in
+    omega arith)
     (λ (all : waiting - m ≤ n).
-      due_none (waiting - m) (next_due waiting due period m) period n (omega arith)
-      ∙ sym (due_none waiting due period (m + n) (omega arith)))
+    due_none (waiting - m) (next_due waiting due period m) period n (omega arith)
+    ∙ sym (due_none waiting due period (m + n) (omega arith)))
     (cases_lt n (waiting - m))
 
 -- the script's next byte has arrived
@@ -89,15 +89,15 @@ arrived_sum cycle later [] after = arrived_empty cycle later
 arrived_sum cycle later (pair ∷ rest) after =
     ⊎_elim
     (λ (late : cycle < pair.0).
-      ap (λ (k : ℕ). k + arrived_by later (drop k (pair ∷ rest))) (arrived_none cycle pair rest late)
-      ∙ zero-add (arrived_by later (pair ∷ rest)))
+    ap (λ (k : ℕ). k + arrived_by later (drop k (pair ∷ rest))) (arrived_none cycle pair rest late)
+    ∙ zero-add (arrived_by later (pair ∷ rest)))
     (λ (early : pair.0 ≤ cycle).
-      let e : 1 + arrived_by cycle rest ≡ suc (arrived_by cycle rest) = omega arith in
-      let before : arrived_by cycle rest + arrived_by later (drop (arrived_by cycle rest) rest) ≡ arrived_by later rest = arrived_sum cycle later rest after in
-      let more : arrived_by later (pair ∷ rest) ≡ 1 + arrived_by later rest = arrived_more later pair rest (omega arith) in
-      let ends : suc (arrived_by cycle rest) + arrived_by later (drop (arrived_by cycle rest) rest) ≡ arrived_by later (pair ∷ rest) = omega arith in
-      ap (λ (k : ℕ). k + arrived_by later (drop k (pair ∷ rest))) (arrived_more cycle pair rest early ∙ e)
-      ∙ ends)
+    let e : 1 + arrived_by cycle rest ≡ suc (arrived_by cycle rest) = omega arith in
+    let before : arrived_by cycle rest + arrived_by later (drop (arrived_by cycle rest) rest) ≡ arrived_by later rest = arrived_sum cycle later rest after in
+    let more : arrived_by later (pair ∷ rest) ≡ 1 + arrived_by later rest = arrived_more later pair rest (omega arith) in
+    let ends : suc (arrived_by cycle rest) + arrived_by later (drop (arrived_by cycle rest) rest) ≡ arrived_by later (pair ∷ rest) = omega arith in
+    ap (λ (k : ℕ). k + arrived_by later (drop k (pair ∷ rest))) (arrived_more cycle pair rest early ∙ e)
+    ∙ ends)
     (cases_lt cycle pair.0)
 
 -- a front of a front and more
@@ -150,15 +150,61 @@ uart_at-then uart cycle later after =
     let counted : sent_by (length (drop m uart.sending)) (next_due waiting uart.due period m) period later ≡ n = ap (λ (k : ℕ). sent_by k (next_due waiting uart.due period m) period later) left in
     let both : m + sent_by (length (drop m uart.sending)) (next_due waiting uart.due period m) period later ≡ sent_by waiting uart.due period later = ap (λ (k : ℕ). m + k) counted ∙ sum in
     let dues : next_due (length (drop m uart.sending)) (next_due waiting uart.due period m) period (sent_by (length (drop m uart.sending)) (next_due waiting uart.due period m) period later) ≡ next_due waiting uart.due period (sent_by waiting uart.due period later) =
-      ap₂ (λ (k q : ℕ). next_due k (next_due waiting uart.due period m) period q) left counted
-      ∙ due_then waiting uart.due period m n few rest
-      ∙ ap (next_due waiting uart.due period) sum in
+    ap₂ (λ (k q : ℕ). next_due k (next_due waiting uart.due period m) period q) left counted
+    ∙ due_then waiting uart.due period m n few rest
+    ∙ ap (next_due waiting uart.due period) sum in
     same_parts later uart.div uart.enable _ _ _ _ _ _ _ _ _ _
     (drop_then uart.script (arrived_by cycle uart.script) (arrived_by later (drop (arrived_by cycle uart.script) uart.script)) (arrived_by later uart.script) come)
     (received_then uart.script uart.received (arrived_by cycle uart.script) (arrived_by later (drop (arrived_by cycle uart.script) uart.script)) (arrived_by later uart.script) come)
     (drop_then uart.sending m _ _ both)
     dues
     (output_then uart.output uart.sending m _ _ both)
+
+-- the UART stands at the cycle that it is brought to
+pub cycle-uart_at : (uart : UartData) (cycle : ℕ) → (uart_at uart cycle).cycle ≡ cycle
+unfolding uart_at
+cycle-uart_at uart cycle = refl
+
+-- a load keeps the cycle
+pub cycle-after_load : (uart : UartData) (offset : ℕ) → (after_load uart offset).cycle ≡ uart.cycle
+unfolding after_load
+cycle-after_load uart offset = elim (offset == 8) as (λ (b : Bool). (cond b (record uart { received = drop 1 uart.received }) uart).cycle ≡ uart.cycle) [
+  | true ↦ refl
+  | false ↦ refl
+]
+
+-- and so does a byte that is to be sent
+cycle-with_tx : (uart : UartData) (byte : ℕ) → (with_tx uart byte).cycle ≡ uart.cycle
+unfolding with_tx
+cycle-with_tx uart byte = cond_both (nat_lt (length uart.sending) 16) _ _ (λ (u : UartData). u.cycle ≡ uart.cycle) (λ _. refl) (λ _. refl)
+
+-- and each store
+pub cycle-after_store : (uart : UartData) (offset : ℕ) (bytes : List ℕ) → (after_store uart offset bytes).cycle ≡ uart.cycle
+unfolding after_store with_number
+cycle-after_store uart offset bytes =
+    cond_both (offset == 0) _ _ (λ (u : UartData). u.cycle ≡ uart.cycle) (λ _. cycle-with_tx uart (number_of false (length bytes) bytes % 2 ^ 8))
+    (λ _. cond_both (offset == 0x18) _ _ (λ (u : UartData). u.cycle ≡ uart.cycle) (λ _. refl)
+    (λ _. cond_both (offset == 0x20) _ _ (λ (u : UartData). u.cycle ≡ uart.cycle) (λ _. refl) (λ _. refl)))
+
+-- an access of a width that is known
+by_width : (offset width k : ℕ) → width ≡ k → (offset % width == 0) ≡ true → (offset % k ≡ 0 → offset % 8 + k ≤ 8) → offset % 8 + width ≤ 8
+by_width offset width k e aligned fits =
+    let at : offset % k ≡ 0 = ap (λ (w : ℕ). offset % w) (sym e) ∙ eqb-true (offset % width) 0 aligned in
+    rw e (fits at)
+
+-- an aligned access of 1, 2, 4 or 8 bytes lies in one slot
+pub in_one_slot : (offset width : ℕ) → ((width == 1 || width == 2) || (width == 4 || width == 8)) ≡ true → (offset % width == 0) ≡ true → offset % 8 + width ≤ 8
+in_one_slot offset width sized aligned =
+    ⊎_elim
+    (λ (a : (width == 1 || width == 2) ≡ true). ⊎_elim
+    (λ (e : (width == 1) ≡ true). by_width offset width 1 (eqb-true width 1 e) aligned (λ h. omega (arith, h)))
+    (λ (e : (width == 2) ≡ true). by_width offset width 2 (eqb-true width 2 e) aligned (λ h. omega (arith, h)))
+    (or_cases (width == 1) (width == 2) a))
+    (λ (a : (width == 4 || width == 8) ≡ true). ⊎_elim
+    (λ (e : (width == 4) ≡ true). by_width offset width 4 (eqb-true width 4 e) aligned (λ h. omega (arith, h)))
+    (λ (e : (width == 8) ≡ true). by_width offset width 8 (eqb-true width 8 e) aligned (λ h. omega (arith, h)))
+    (or_cases (width == 4) (width == 8) a))
+    (or_cases (width == 1 || width == 2) (width == 4 || width == 8) sized)
 
 -- a byte that is stored at cycle 2 with CLOCK_DIV 0 isn't sent at cycle 161
 pub not_sent_at_161 : (uart_at (after_store (uart_at (start_uart []) 2) 0 (65 ∷ [])) 161).output ≡ []

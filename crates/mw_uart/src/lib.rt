@@ -4,3 +4,6 @@
 mod uart;
 
 pub use uart::Uart;
+
+#[cfg(test)]
+mod tests;
