@@ -1,0 +1,217 @@
+-- The laws of the UART at any cycle.
+use Rattle.std.proofs.Common.{◌≡◌, ℕ, zero, suc, ◌+◌, ◌-◌, ◌*◌, ◌%◌, ◌^◌, ◌<◌, ◌≤◌, ◌==◌, Bool, true, false, ◌||◌, cond, nat_lt, nat_le, leb, inl, inr, ⊎_elim, List, [], ◌∷◌, ◌++◌, length, map, take, drop, refl, sym, ap, ap₂, subst, zero-add, ◌∙◌, arith, append_assoc, take-add, drop-drop, length-drop, le-leb}
+use Rattle.std.proofs.lemmas.List.{map-append}
+use Rattle.std.proofs.lemmas.Bool.{eqb-true, or_cases, cond_both, cases_lt, cond-true, cond-false, lt-leb}
+use Rattle.mw_uart.specs.UartData.{UartData, start_uart, period_of}
+use Rattle.mw_uart.specs.UartAt.{arrived_by, arrivals, sent_by, next_due, sent_of, uart_at}
+use Rattle.mw_uart.specs.Registers.{after_load, after_store, with_number, with_tx}
+use Rattle.mw_bus.specs.Memory.{number_of}
+use Rattle.mw_uart.specs.Inside.{IsSent}
+use Rattle.mw_uart.proofs.SentLemmas.{is_sent, sent_once, due_later, due_none}
+
+-- what is sent by a cycle and then by a later one is sent by the later one
+sent_then : (waiting due period cycle later m n : ℕ) → cycle ≤ later → IsSent waiting due period cycle m → IsSent (waiting - m) (next_due waiting due period m) period later n → IsSent waiting due period later (m + n)
+sent_then waiting due period cycle later m n after first second =
+    let sum : (m + n) * period ≡ m * period + n * period = omega arith in
+    ⊎_elim
+    (λ (more : m < waiting).
+    let next : next_due waiting due period m ≡ due + m * period = due_later waiting due period m more in
+    record {
+      most = omega (arith, second.most);
+      rest = λ h.
+          let l : later < next_due waiting due period m + n * period = second.rest (omega arith) in
+          omega arith;
+      done = λ h. ⊎_elim
+          (λ (none : n < 1).
+          let no_more : n ≡ 0 = omega arith in
+          let e : n * period ≡ 0 * period = ap (λ (k : ℕ). k * period) no_more in
+          let l : due + m * period ≤ cycle + period = first.done (omega arith) in
+          omega arith)
+          (λ (some : 1 ≤ n).
+          let l : next_due waiting due period m + n * period ≤ later + period = second.done some in
+          omega arith)
+          (cases_lt n 1);
+    })
+    (λ (all : waiting ≤ m).
+    let no_more : n ≡ 0 = omega (arith, second.most) in
+    let e : n * period ≡ 0 * period = ap (λ (k : ℕ). k * period) no_more in
+    record {
+      most = omega (arith, first.most);
+      rest = λ h. absurd (omega arith);
+      done = λ h.
+          let l : due + m * period ≤ cycle + period = first.done (omega arith) in
+          omega arith;
+    })
+    (cases_lt m waiting)
+
+-- the count of sent bytes in two steps
+sent_sum : (waiting due period cycle later m n : ℕ) → 0 < period → cycle ≤ later → m ≡ sent_by waiting due period cycle → n ≡ sent_by (waiting - m) (next_due waiting due period m) period later → m + n ≡ sent_by waiting due period later
+sent_sum waiting due period cycle later m n some after e f =
+    let first : IsSent waiting due period cycle m = subst (λ (k : ℕ). IsSent waiting due period cycle k) (sym e) (is_sent waiting due period cycle some) in
+    let second : IsSent (waiting - m) (next_due waiting due period m) period later n = subst (λ (k : ℕ). IsSent (waiting - m) (next_due waiting due period m) period later k) (sym f) (is_sent (waiting - m) (next_due waiting due period m) period later some) in
+    sent_once waiting due period later (m + n) (sent_by waiting due period later)
+    (sent_then waiting due period cycle later m n after first second)
+    (is_sent waiting due period later some)
+
+-- when the next byte is due after two steps
+due_then : (waiting due period m n : ℕ) → m ≤ waiting → n ≤ waiting - m → next_due (waiting - m) (next_due waiting due period m) period n ≡ next_due waiting due period (m + n)
+due_then waiting due period m n few rest =
+    ⊎_elim
+    (λ (more : n < waiting - m).
+    let sum : (m + n) * period ≡ m * period + n * period = omega arith in
+    let a : next_due (waiting - m) (next_due waiting due period m) period n ≡ next_due waiting due period m + n * period = due_later (waiting - m) (next_due waiting due period m) period n more in
+    let b : next_due waiting due period m ≡ due + m * period = due_later waiting due period m (omega arith) in
+    let d : next_due waiting due period (m + n) ≡ due + (m + n) * period = due_later waiting due period (m + n) (omega arith) in
+    omega arith)
+    (λ (all : waiting - m ≤ n).
+    due_none (waiting - m) (next_due waiting due period m) period n (omega arith)
+    ∙ sym (due_none waiting due period (m + n) (omega arith)))
+    (cases_lt n (waiting - m))
+
+-- the script's next byte has arrived
+arrived_more : (cycle : ℕ) (pair : ℕ × ℕ) (rest : List (ℕ × ℕ)) → pair.0 ≤ cycle → arrived_by cycle (pair ∷ rest) ≡ 1 + arrived_by cycle rest
+unfolding arrived_by
+arrived_more cycle pair rest early = cond-true (nat_le pair.0 cycle) (1 + arrived_by cycle rest) 0 (le-leb pair.0 cycle early)
+
+-- it hasn't
+arrived_none : (cycle : ℕ) (pair : ℕ × ℕ) (rest : List (ℕ × ℕ)) → cycle < pair.0 → arrived_by cycle (pair ∷ rest) ≡ 0
+unfolding arrived_by
+arrived_none cycle pair rest late = cond-false (nat_le pair.0 cycle) (1 + arrived_by cycle rest) 0 (lt-leb pair.0 cycle late)
+
+-- nothing arrives from an empty script
+arrived_empty : (cycle later : ℕ) → arrived_by cycle [] + arrived_by later (drop (arrived_by cycle []) []) ≡ arrived_by later []
+unfolding arrived_by
+arrived_empty cycle later = refl
+
+-- the count of arrived bytes in two steps
+arrived_sum : (cycle later : ℕ) (script : List (ℕ × ℕ)) → cycle ≤ later → arrived_by cycle script + arrived_by later (drop (arrived_by cycle script) script) ≡ arrived_by later script
+arrived_sum cycle later [] after = arrived_empty cycle later
+arrived_sum cycle later (pair ∷ rest) after =
+    ⊎_elim
+    (λ (late : cycle < pair.0).
+    ap (λ (k : ℕ). k + arrived_by later (drop k (pair ∷ rest))) (arrived_none cycle pair rest late)
+    ∙ zero-add (arrived_by later (pair ∷ rest)))
+    (λ (early : pair.0 ≤ cycle).
+    let e : 1 + arrived_by cycle rest ≡ suc (arrived_by cycle rest) = omega arith in
+    let before : arrived_by cycle rest + arrived_by later (drop (arrived_by cycle rest) rest) ≡ arrived_by later rest = arrived_sum cycle later rest after in
+    let more : arrived_by later (pair ∷ rest) ≡ 1 + arrived_by later rest = arrived_more later pair rest (omega arith) in
+    let ends : suc (arrived_by cycle rest) + arrived_by later (drop (arrived_by cycle rest) rest) ≡ arrived_by later (pair ∷ rest) = omega arith in
+    ap (λ (k : ℕ). k + arrived_by later (drop k (pair ∷ rest))) (arrived_more cycle pair rest early ∙ e)
+    ∙ ends)
+    (cases_lt cycle pair.0)
+
+-- a front of a front and more
+take_then : (k : ℕ) (xs ys : List ℕ) → take k (take k xs ++ ys) ≡ take k (xs ++ ys)
+take_then zero xs ys = refl
+take_then (suc k) [] ys = refl
+take_then (suc k) (x ∷ xs) ys = ap (λ (zs : List ℕ). x ∷ zs) (take_then k xs ys)
+
+-- what has arrived after two steps
+received_then : (script : List (ℕ × ℕ)) (received : List ℕ) (m n k : ℕ) → m + n ≡ k → take 16 (take 16 (received ++ map (λ pair. pair.1) (take m script)) ++ map (λ pair. pair.1) (take n (drop m script))) ≡ take 16 (received ++ map (λ pair. pair.1) (take k script))
+received_then script received m n k e =
+    take_then 16 (received ++ map (λ pair. pair.1) (take m script)) (map (λ pair. pair.1) (take n (drop m script)))
+    ∙ ap (take 16)
+    (append_assoc received (map (λ pair. pair.1) (take m script)) (map (λ pair. pair.1) (take n (drop m script)))
+    ∙ ap (λ (xs : List ℕ). received ++ xs)
+    (sym (map-append (λ (pair : ℕ × ℕ). pair.1) (take m script) (take n (drop m script)))
+    ∙ ap (map (λ pair. pair.1)) (sym (take-add m n script) ∙ ap (λ (q : ℕ). take q script) e)))
+
+-- what is sent after two steps
+output_then : (output sending : List ℕ) (m n k : ℕ) → m + n ≡ k → (output ++ take m sending) ++ take n (drop m sending) ≡ output ++ take k sending
+output_then output sending m n k e =
+    append_assoc output (take m sending) (take n (drop m sending))
+    ∙ ap (λ (xs : List ℕ). output ++ xs) (sym (take-add m n sending) ∙ ap (λ (q : ℕ). take q sending) e)
+
+-- a list without a front and then another
+drop_then : {A : Type 0} (xs : List A) (m n k : ℕ) → m + n ≡ k → drop n (drop m xs) ≡ drop k xs
+drop_then xs m n k e = drop-drop n m xs ∙ ap (λ (q : ℕ). drop q xs) e
+
+-- the data by its parts
+abbrev pub parts : ℕ → List (ℕ × ℕ) → List ℕ → List ℕ → ℕ → ℕ → ℕ → List ℕ → UartData
+parts cycle script received sending due div enable output = record { cycle = cycle; script = script; received = received; sending = sending; due = due; div = div; enable = enable; output = output }
+
+-- alike in each part that a cycle changes
+same_parts : (cycle div enable : ℕ) (s t : List (ℕ × ℕ)) (r q w x o p : List ℕ) (d e : ℕ) → s ≡ t → r ≡ q → w ≡ x → d ≡ e → o ≡ p → parts cycle s r w d div enable o ≡ parts cycle t q x e div enable p
+same_parts cycle div enable s t r q w x o p d e a b f g h = rw (a, b, f, g, h) refl
+
+-- the UART brought to a cycle and then to a later one is the UART brought to the later one
+pub uart_at-then : (uart : UartData) (cycle later : ℕ) → cycle ≤ later → uart_at (uart_at uart cycle) later ≡ uart_at uart later
+unfolding uart_at
+uart_at-then uart cycle later after =
+    let period = period_of uart.div in
+    let waiting = length uart.sending in
+    let m = sent_by waiting uart.due period cycle in
+    let few : m ≤ waiting = (is_sent waiting uart.due period cycle (omega arith)).most in
+    let left : length (drop m uart.sending) ≡ waiting - m = length-drop m uart.sending in
+    let n = sent_by (waiting - m) (next_due waiting uart.due period m) period later in
+    let rest : n ≤ waiting - m = (is_sent (waiting - m) (next_due waiting uart.due period m) period later (omega arith)).most in
+    let sum : m + n ≡ sent_by waiting uart.due period later = sent_sum waiting uart.due period cycle later m n (omega arith) after refl refl in
+    let come : arrived_by cycle uart.script + arrived_by later (drop (arrived_by cycle uart.script) uart.script) ≡ arrived_by later uart.script = arrived_sum cycle later uart.script after in
+    let counted : sent_by (length (drop m uart.sending)) (next_due waiting uart.due period m) period later ≡ n = ap (λ (k : ℕ). sent_by k (next_due waiting uart.due period m) period later) left in
+    let both : m + sent_by (length (drop m uart.sending)) (next_due waiting uart.due period m) period later ≡ sent_by waiting uart.due period later = ap (λ (k : ℕ). m + k) counted ∙ sum in
+    let dues : next_due (length (drop m uart.sending)) (next_due waiting uart.due period m) period (sent_by (length (drop m uart.sending)) (next_due waiting uart.due period m) period later) ≡ next_due waiting uart.due period (sent_by waiting uart.due period later) =
+    ap₂ (λ (k q : ℕ). next_due k (next_due waiting uart.due period m) period q) left counted
+    ∙ due_then waiting uart.due period m n few rest
+    ∙ ap (next_due waiting uart.due period) sum in
+    same_parts later uart.div uart.enable _ _ _ _ _ _ _ _ _ _
+    (drop_then uart.script (arrived_by cycle uart.script) (arrived_by later (drop (arrived_by cycle uart.script) uart.script)) (arrived_by later uart.script) come)
+    (received_then uart.script uart.received (arrived_by cycle uart.script) (arrived_by later (drop (arrived_by cycle uart.script) uart.script)) (arrived_by later uart.script) come)
+    (drop_then uart.sending m _ _ both)
+    dues
+    (output_then uart.output uart.sending m _ _ both)
+
+-- the UART stands at the cycle that it is brought to
+pub cycle-uart_at : (uart : UartData) (cycle : ℕ) → (uart_at uart cycle).cycle ≡ cycle
+unfolding uart_at
+cycle-uart_at uart cycle = refl
+
+-- a load keeps the cycle
+pub cycle-after_load : (uart : UartData) (offset : ℕ) → (after_load uart offset).cycle ≡ uart.cycle
+unfolding after_load
+cycle-after_load uart offset = elim (offset == 8) as (λ (b : Bool). (cond b (record uart { received = drop 1 uart.received }) uart).cycle ≡ uart.cycle) [
+  | true ↦ refl
+  | false ↦ refl
+]
+
+-- and so does a byte that is to be sent
+cycle-with_tx : (uart : UartData) (byte : ℕ) → (with_tx uart byte).cycle ≡ uart.cycle
+unfolding with_tx
+cycle-with_tx uart byte = cond_both (nat_lt (length uart.sending) 16) _ _ (λ (u : UartData). u.cycle ≡ uart.cycle) (λ _. refl) (λ _. refl)
+
+-- and each store
+pub cycle-after_store : (uart : UartData) (offset : ℕ) (bytes : List ℕ) → (after_store uart offset bytes).cycle ≡ uart.cycle
+unfolding after_store with_number
+cycle-after_store uart offset bytes =
+    cond_both (offset == 0) _ _ (λ (u : UartData). u.cycle ≡ uart.cycle) (λ _. cycle-with_tx uart (number_of false (length bytes) bytes % 2 ^ 8))
+    (λ _. cond_both (offset == 0x18) _ _ (λ (u : UartData). u.cycle ≡ uart.cycle) (λ _. refl)
+    (λ _. cond_both (offset == 0x20) _ _ (λ (u : UartData). u.cycle ≡ uart.cycle) (λ _. refl) (λ _. refl)))
+
+-- an access of a width that is known
+by_width : (offset width k : ℕ) → width ≡ k → (offset % width == 0) ≡ true → (offset % k ≡ 0 → offset % 8 + k ≤ 8) → offset % 8 + width ≤ 8
+by_width offset width k e aligned fits =
+    let at : offset % k ≡ 0 = ap (λ (w : ℕ). offset % w) (sym e) ∙ eqb-true (offset % width) 0 aligned in
+    rw e (fits at)
+
+-- an aligned access of 1, 2, 4 or 8 bytes lies in one slot
+pub in_one_slot : (offset width : ℕ) → ((width == 1 || width == 2) || (width == 4 || width == 8)) ≡ true → (offset % width == 0) ≡ true → offset % 8 + width ≤ 8
+in_one_slot offset width sized aligned =
+    ⊎_elim
+    (λ (a : (width == 1 || width == 2) ≡ true). ⊎_elim
+    (λ (e : (width == 1) ≡ true). by_width offset width 1 (eqb-true width 1 e) aligned (λ h. omega (arith, h)))
+    (λ (e : (width == 2) ≡ true). by_width offset width 2 (eqb-true width 2 e) aligned (λ h. omega (arith, h)))
+    (or_cases (width == 1) (width == 2) a))
+    (λ (a : (width == 4 || width == 8) ≡ true). ⊎_elim
+    (λ (e : (width == 4) ≡ true). by_width offset width 4 (eqb-true width 4 e) aligned (λ h. omega (arith, h)))
+    (λ (e : (width == 8) ≡ true). by_width offset width 8 (eqb-true width 8 e) aligned (λ h. omega (arith, h)))
+    (or_cases (width == 4) (width == 8) a))
+    (or_cases (width == 1 || width == 2) (width == 4 || width == 8) sized)
+
+-- a byte that is stored at cycle 2 with CLOCK_DIV 0 isn't sent at cycle 161
+pub not_sent_at_161 : (uart_at (after_store (uart_at (start_uart []) 2) 0 (65 ∷ [])) 161).output ≡ []
+unfolding uart_at after_store with_number with_tx number_of sent_by next_due arrived_by
+not_sent_at_161 = refl
+
+-- and it is at cycle 162
+pub sent_at_162 : (uart_at (after_store (uart_at (start_uart []) 2) 0 (65 ∷ [])) 162).output ≡ 65 ∷ []
+unfolding uart_at after_store with_number with_tx number_of sent_by next_due arrived_by
+sent_at_162 = refl

@@ -1,0 +1,25 @@
+-- What is true of the UART's parts at every time. Only proofs in this crate need it.
+use Rattle.std.specs.Prelude.{◌≡◌, ℕ, ◌+◌, ◌*◌, ◌^◌, ◌<◌, ◌≤◌, length}
+use Rattle.circular_buffer.specs.Buffer.{Buffer}
+
+-- a queue of at most 16 bytes
+abbrev pub IsQueue : Buffer ℕ → Type 0
+IsQueue queue = (queue.capacity ≡ 16) × (length queue.items ≤ 16)
+
+-- the time that the output took, so that there is always room for it: how many bytes are sent, how many wait, when the first of these is sent, the cycle, and the room
+pub record IsTimed (sent waiting due cycle room : ℕ) : Type 0 where
+  -- each byte took 160 cycles
+  pub past : sent * 160 ≤ cycle
+  -- the next one takes 160 more
+  pub next : 0 < waiting → 160 * (sent + 1) ≤ due
+  -- a byte is sent after the longest period at the latest
+  pub soon : due ≤ cycle + 10485760
+  -- a cycle is in reach of the room
+  pub within : cycle ≤ room * 160 + 159
+  pub small : room ≤ 2 ^ 32
+
+-- of some waiting bytes this many are sent by a cycle: all, or else the next one isn't sent yet, and the last of them is
+pub record IsSent (waiting due period cycle sent : ℕ) : Type 0 where
+  pub most : sent ≤ waiting
+  pub rest : sent < waiting → cycle < due + sent * period
+  pub done : 0 < sent → due + sent * period ≤ cycle + period

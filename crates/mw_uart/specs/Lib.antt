@@ -1,0 +1,4 @@
+pub mod UartData
+pub mod UartAt
+pub mod Registers
+pub mod Inside
