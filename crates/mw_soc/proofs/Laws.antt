@@ -1,0 +1,46 @@
+-- What a load and a store leave of the devices.
+use Rattle.std.proofs.Common.{◌≡◌, ℕ, ◌≤◌, Bool, true, false, List, cond, refl, ap, ◌∙◌, arith}
+use Rattle.mw_uart.specs.UartData.{Roomy}
+use Rattle.mw_uart.specs.UartAt.{uart_at}
+use Rattle.mw_uart.specs.Registers.{after_load, after_store}
+use Rattle.mw_uart.proofs.Laws.{cycle-uart_at, cycle-after_load, cycle-after_store}
+use Rattle.mw_soc.specs.DeviceData.{DeviceData, Housed}
+use Rattle.mw_soc.specs.Devices.{cycle_of, devices_at}
+use Rattle.mw_soc.specs.Map.{is_uart, after_device_load, after_device_store}
+
+-- they stand at the cycle that they are brought to
+pub cycle-devices_at : (devices : DeviceData) (cycle : ℕ) → cycle_of (devices_at devices cycle) ≡ cycle
+cycle-devices_at devices cycle = cycle-uart_at devices.uart cycle
+
+-- of two devices with one cycle either has it
+one-cycle : (b : Bool) (x y : DeviceData) (cycle : ℕ) → cycle_of x ≡ cycle → cycle_of y ≡ cycle → cycle_of (cond b x y) ≡ cycle
+one-cycle true x y cycle p q = p
+one-cycle false x y cycle p q = q
+
+-- a load leaves the cycle
+pub cycle-device_load : (devices : DeviceData) (at : ℕ) → cycle_of (after_device_load devices at) ≡ cycle_of devices
+unfolding after_device_load
+cycle-device_load devices at = one-cycle (is_uart at) _ devices (cycle_of devices) (cycle-after_load devices.uart _) refl
+
+-- and so does a store
+pub cycle-device_store : (devices : DeviceData) (at : ℕ) (bytes : List ℕ) → cycle_of (after_device_store devices at bytes) ≡ cycle_of devices
+unfolding after_device_store
+cycle-device_store devices at bytes = one-cycle (is_uart at) _ devices (cycle_of devices) (cycle-after_store devices.uart _ bytes) refl
+
+-- a cycle that isn't after the UART's isn't after that of the UART brought on
+pub kept-advance : (old new : Roomy) (now : Housed) (cycle dec_at : ℕ) → new ≡ record old { uart = uart_at old.uart cycle } → old.uart.cycle ≡ cycle_of now.devices → cycle_of now.devices ≤ cycle → dec_at ≤ old.uart.cycle → dec_at ≤ new.uart.cycle
+kept-advance old new now cycle dec_at e v later within =
+    let n : new.uart.cycle ≡ cycle = ap (λ (r : Roomy). r.uart.cycle) e ∙ cycle-uart_at old.uart cycle in
+    omega arith
+
+-- nor after that of the UART that was loaded from
+pub kept-load : (old new : Roomy) (offset dec_at : ℕ) → new ≡ record old { uart = after_load old.uart offset } → dec_at ≤ old.uart.cycle → dec_at ≤ new.uart.cycle
+kept-load old new offset dec_at e within =
+    let n : new.uart.cycle ≡ old.uart.cycle = ap (λ (r : Roomy). r.uart.cycle) e ∙ cycle-after_load old.uart offset in
+    omega arith
+
+-- or stored to
+pub kept-store : (old new : Roomy) (offset dec_at : ℕ) (bytes : List ℕ) → new ≡ record old { uart = after_store old.uart offset bytes } → dec_at ≤ old.uart.cycle → dec_at ≤ new.uart.cycle
+kept-store old new offset dec_at bytes e within =
+    let n : new.uart.cycle ≡ old.uart.cycle = ap (λ (r : Roomy). r.uart.cycle) e ∙ cycle-after_store old.uart offset bytes in
+    omega arith

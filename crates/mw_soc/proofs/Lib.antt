@@ -1,0 +1,2 @@
+-- What no call changes of the devices.
+pub mod Laws

@@ -1,0 +1,14 @@
+-- The data of the devices.
+use Rattle.std.specs.Prelude.{ℕ}
+use Rattle.mw_uart.specs.UartData.{UartData}
+
+-- the UART, whose cycle is the one that all stand at; the decrementer as it was last written; and the cycle of that writing
+pub record DeviceData : Type 0 where
+  pub uart : UartData
+  pub dec : ℕ
+  pub dec_at : ℕ
+
+-- the devices, and how many bytes of output they have memory for
+pub record Housed : Type 0 where
+  pub devices : DeviceData
+  pub room : ℕ

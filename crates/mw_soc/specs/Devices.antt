@@ -1,0 +1,29 @@
+-- The devices at any cycle (Book III, timer facilities; the rest is this board's own).
+use Rattle.std.specs.Prelude.{ℕ, ◌+◌, ◌-◌, ◌%◌, ◌^◌, Bool, nat_le, []}
+use Rattle.mw_uart.specs.UartData.{start_uart}
+use Rattle.mw_uart.specs.UartAt.{uart_at}
+use Rattle.mw_soc.specs.DeviceData.{DeviceData}
+
+-- the devices at cycle 0; no byte is to arrive
+abbrev pub start_devices : DeviceData
+start_devices = record { uart = start_uart []; dec = 0x7FFF_FFFF; dec_at = 0 }
+
+-- the cycle that they stand at, which is the time base
+abbrev pub cycle_of : DeviceData → ℕ
+cycle_of devices = devices.uart.cycle
+
+-- they brought to a cycle that isn't before theirs
+abbrev pub devices_at : DeviceData → ℕ → DeviceData
+devices_at devices cycle = record devices { uart = uart_at devices.uart cycle }
+
+-- the decrementer: the value last written minus the cycles since, in 32 bits
+abbrev pub dec_of : DeviceData → ℕ
+dec_of devices = (devices.dec + (2 ^ 32 - (cycle_of devices - devices.dec_at) % 2 ^ 32)) % 2 ^ 32
+
+-- the decrementer's exception stands while its top bit is 1
+abbrev pub dec_stands : DeviceData → Bool
+dec_stands devices = nat_le (2 ^ 31) (dec_of devices)
+
+-- with a value written to the decrementer
+abbrev pub with_dec : DeviceData → ℕ → DeviceData
+with_dec devices value = record devices { dec = value; dec_at = cycle_of devices }

@@ -1,0 +1,42 @@
+-- The board's map outside RAM (this board's own).
+use Rattle.std.specs.Prelude.{ℕ, ◌-◌, ◌==◌, Bool, ◌&&◌, if◌then◌else◌, nat_lt, nat_le, List, replicate}
+use Rattle.std.specs.Int.{w64, to_le_bytes}
+use Rattle.mw_bus.specs.Memory.{padded}
+use Rattle.mw_uart.specs.Registers.{loaded, after_load, after_store}
+use Rattle.mw_soc.specs.DeviceData.{DeviceData}
+
+-- the system controller stands at a real address
+abbrev pub is_system : ℕ → Bool
+is_system at = nat_le 0xC000_0000 at && nat_lt at 0xC000_1000
+
+-- the UART stands there
+abbrev pub is_uart : ℕ → Bool
+is_uart at = nat_le 0xC000_2000 at && nat_lt at 0xC000_3000
+
+-- the doublewords of the system controller: a signature; 5, for what it has; the bytes of RAM; and the clock in hertz
+abbrev pub system_number : ℕ → ℕ
+system_number offset =
+    if offset == 0 then 0xF00D_AA55_0001_0001
+    else if offset == 8 then 5
+    else if offset == 0x10 then 16777216
+    else if offset == 0x20 then 100000000
+    else 0
+
+-- the bytes that a load there gives, and zeros behind them up to 8: only a load of 8 bytes gives a doubleword, little-endian
+unfoldable pub system_loaded : ℕ → ℕ → List ℕ
+system_loaded offset width = if width == 8 then to_le_bytes w64 (system_number offset) else replicate 8 0
+
+-- the bytes that a load outside RAM gives, and zeros behind them up to 8: all ones where no device is
+unfoldable pub device_loaded : DeviceData → ℕ → ℕ → List ℕ
+device_loaded devices at width =
+    if is_uart at then loaded devices.uart (at - 0xC000_2000) width
+    else if is_system at then system_loaded (at - 0xC000_0000) width
+    else padded (replicate width 255)
+
+-- the devices after a load outside RAM
+unfoldable pub after_device_load : DeviceData → ℕ → DeviceData
+after_device_load devices at = if is_uart at then record devices { uart = after_load devices.uart (at - 0xC000_2000) } else devices
+
+-- the devices after a store of bytes outside RAM, which vanish where no device takes them
+unfoldable pub after_device_store : DeviceData → ℕ → List ℕ → DeviceData
+after_device_store devices at bytes = if is_uart at then record devices { uart = after_store devices.uart (at - 0xC000_2000) bytes } else devices

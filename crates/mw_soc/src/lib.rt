@@ -1,0 +1,7 @@
+//! The board's devices and their map: the UART, the system controller and the decrementer.
+#![tactic(auto)]
+
+mod devices;
+mod system;
+
+pub use devices::Devices;
