@@ -8,7 +8,7 @@ use Rattle.mw_isa.specs.declared.event.Event.TheVariants.{Retire}
 use Rattle.mw_isa.specs.declared.outcome.Operands.{Operands}
 use Rattle.mw_isa.specs.declared.outcome.Outcome.{Outcome}
 use Rattle.mw_isa.specs.State.{State}
-use Rattle.mw_isa.specs.Devices.{cycle_of}
+use Rattle.mw_soc.specs.Devices.{cycle_of}
 use Rattle.mw_isa.specs.Fetch.{fetched}
 use Rattle.mw_isa.specs.Execute.{operands_of, exec_of}
 use Rattle.mw_isa.specs.Step.{Stepped, after_of, decoded, builds, is_built, is_built_outcome}

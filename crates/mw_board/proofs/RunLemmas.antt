@@ -9,10 +9,10 @@ use Rattle.mw_isa.specs.declared.event.Event.{Event}
 use Rattle.mw_isa.specs.declared.event.End.TheVariants.{Ran}
 use Rattle.mw_bus.specs.Memory.{ram_of}
 use Rattle.mw_isa.specs.declared.regs.Regs.{Regs}
-use Rattle.mw_isa.specs.DeviceData.{DeviceData}
+use Rattle.mw_soc.specs.DeviceData.{DeviceData}
 use Rattle.mw_isa.specs.State.{State, state_of, brought}
 use Rattle.mw_isa.specs.Start.{start, start_regs}
-use Rattle.mw_isa.specs.Devices.{cycle_of, devices_at, start_devices}
+use Rattle.mw_soc.specs.Devices.{cycle_of, devices_at, start_devices}
 use Rattle.mw_isa.specs.Step.{step, builds}
 use Rattle.mw_isa.specs.Replay.{acted, replay, state_after, cycle_of_event, cycles_of}
 use Rattle.mw_isa.specs.Unbuilt.{unbuilt_from, first_unbuilt}

@@ -2,7 +2,7 @@
 use Rattle.std.specs.Prelude.{◌≡◌, true, false, Option, Some, None}
 use Rattle.mw_isa.specs.declared.event.Event.{Event}
 use Rattle.mw_isa.specs.State.{State}
-use Rattle.mw_isa.specs.Devices.{cycle_of}
+use Rattle.mw_soc.specs.Devices.{cycle_of}
 use Rattle.mw_isa.specs.Step.{step, builds}
 use Rattle.mw_isa.specs.Replay.{acted, cycle_of_event}
 

@@ -5,12 +5,17 @@ use Rattle.mw_decode.specs.declared.insn.Decoded.{Decoded}
 use Rattle.mw_decode.specs.declared.insn.Decoded.TheVariants.{Insn as Is}
 use Rattle.mw_isa.specs.declared.event.Event.TheVariants.{Retire}
 use Rattle.mw_isa.specs.declared.memory.MemOp.{MemOp}
+use Rattle.mw_isa.specs.declared.memory.MemWhat.{MemWhat}
+use Rattle.mw_isa.specs.declared.memory.MemWhat.TheVariants.{Load, Store, Conditional, Zero, Clean, Icbi}
 use Rattle.mw_isa.specs.declared.outcome.Outcome.{Outcome}
 use Rattle.mw_isa.specs.declared.outcome.Outcome.TheVariants.{Done, Memory}
 use Rattle.mw_isa.specs.State.{State}
 use Rattle.mw_isa.specs.Fetch.{fetched}
 use Rattle.mw_isa.specs.Execute.{operands_of, exec_of}
-use Rattle.mw_isa.specs.Access.{accessed}
+use Rattle.mw_soc.specs.DeviceData.{DeviceData}
+use Rattle.mw_soc.specs.Devices.{cycle_of}
+use Rattle.mw_soc.proofs.Laws.{cycle-device_load, cycle-device_store}
+use Rattle.mw_isa.specs.Access.{accessed, is_in_ram, devices_behind}
 use Rattle.mw_isa.specs.Step.{Stepped, step, step_of, step_by, insn_in, outcome_of, written, after_of, decoded, builds, is_built, is_built_outcome}
 use Rattle.mw_isa.specs.Replay.{acted, retires, same_suffix}
 
@@ -55,22 +60,36 @@ acted-retire cycle insn outcome state d b e =
     ∙ both (eq-eqb state.regs.cia state.regs.cia refl) (both (eq-eqb (fetched state).word (fetched state).word refl) (same_suffix-refl (fetched state).suffix))) in
     ap₂ (λ (c : Bool) (r : Stepped). cond c (Some r.after) None) t s
 
--- an access leaves the devices
-accessed-devices : (op : MemOp) (state : State) → (accessed op state).devices ≡ state.devices
-unfolding accessed
-accessed-devices op state = refl
+-- of two devices with one cycle either has it
+one-cycle : (b : Bool) (x y : DeviceData) (cycle : ℕ) → cycle_of x ≡ cycle → cycle_of y ≡ cycle → cycle_of (cond b x y) ≡ cycle
+one-cycle true x y cycle p q = p
+one-cycle false x y cycle p q = q
 
--- an outcome leaves the devices
-written-devices : (outcome : Outcome) (state : State) → (written outcome state).devices ≡ state.devices
-written-devices (Done targets next) state = refl
-written-devices (Memory op) state = accessed-devices op state
+-- an access leaves the devices' cycle
+devices_behind-cycle : (what : MemWhat) (op : MemOp) (state : State) → cycle_of (devices_behind what op state) ≡ cycle_of state.devices
+devices_behind-cycle (Load signed reversed reserve) op state = one-cycle (is_in_ram op) state.devices _ (cycle_of state.devices) refl (cycle-device_load state.devices _)
+devices_behind-cycle (Store reversed) op state = one-cycle (is_in_ram op) state.devices _ (cycle_of state.devices) refl (cycle-device_store state.devices _ _)
+devices_behind-cycle (Conditional reversed) op state = refl
+devices_behind-cycle Zero op state = refl
+devices_behind-cycle Clean op state = refl
+devices_behind-cycle Icbi op state = refl
+
+-- and so it does whole
+accessed-cycle : (op : MemOp) (state : State) → cycle_of (accessed op state).devices ≡ cycle_of state.devices
+unfolding accessed
+accessed-cycle op state = devices_behind-cycle op.what op state
+
+-- an outcome leaves it
+written-cycle : (outcome : Outcome) (state : State) → cycle_of (written outcome state).devices ≡ cycle_of state.devices
+written-cycle (Done targets next) state = refl
+written-cycle (Memory op) state = accessed-cycle op state
 
 -- and so does the instruction
-pub after_of-devices : (outcome : Option Outcome) (at : ℕ) (state : State) → (after_of outcome at state).devices ≡ state.devices
-after_of-devices None at state = refl
-after_of-devices (Some outcome) at state = written-devices outcome state
+pub after_of-cycle : (outcome : Option Outcome) (at : ℕ) (state : State) → cycle_of (after_of outcome at state).devices ≡ cycle_of state.devices
+after_of-cycle None at state = refl
+after_of-cycle (Some outcome) at state = written-cycle outcome state
 
--- a step leaves the devices
-pub step-devices : (state : State) → (step state).after.devices ≡ state.devices
+-- a step leaves the devices' cycle
+pub step-cycle : (state : State) → cycle_of (step state).after.devices ≡ cycle_of state.devices
 unfolding step
-step-devices state = after_of-devices (outcome_of (insn_in (decoded state)) state.regs.cia state.regs) state.regs.cia state
+step-cycle state = after_of-cycle (outcome_of (insn_in (decoded state)) state.regs.cia state.regs) state.regs.cia state

@@ -1,9 +1,11 @@
 -- An access to storage in real mode (Book I, storage operands; Book II, atomic update, cache management and the
 -- reservation; Book III, real addressing and alignment).
-use Rattle.std.specs.Prelude.{ℕ, ◌≡◌, ◌+◌, ◌-◌, ◌*◌, ◌/◌, ◌%◌, ◌^◌, ◌==◌, Bool, true, false, not, ◌&&◌, ◌||◌, if◌then◌else◌, nat_lt, nat_le, List, [], ◌∷◌, replicate, Option, Some, None, slice_set}
+use Rattle.std.specs.Prelude.{ℕ, ◌≡◌, ◌+◌, ◌-◌, ◌*◌, ◌/◌, ◌%◌, ◌^◌, ◌==◌, Bool, true, false, not, ◌&&◌, ◌||◌, if◌then◌else◌, nat_lt, nat_le, List, [], ◌∷◌, take, replicate, Option, Some, None, slice_set}
 use Rattle.std.specs.Option.{option_map_or}
 use Rattle.mw_bits.specs.Fields.{sext_of}
 use Rattle.mw_bus.specs.Memory.{bytes_at, laid, number_of, bytes_of}
+use Rattle.mw_soc.specs.DeviceData.{DeviceData}
+use Rattle.mw_soc.specs.Map.{device_loaded, after_device_load, after_device_store}
 use Rattle.mw_isa.specs.declared.access.Kind.{Kind}
 use Rattle.mw_isa.specs.declared.access.Kind.TheVariants.{Load as Loads, Store as Stores}
 use Rattle.mw_isa.specs.declared.access.Touch.{Touch}
@@ -100,9 +102,13 @@ with_reservation reserve op regs = if reserve then record regs { reserve = Some 
 abbrev pub extended : Bool → ℕ → ℕ → ℕ
 extended signed len number = if signed then sext_of number (8 * len) else number
 
--- the number that a load gives: RAM's bytes, or all ones where RAM isn't
-abbrev pub load_number : Bool → Bool → MemOp → List ℕ → ℕ
-load_number signed reversed op ram = extended signed op.len (number_of reversed op.len (bytes_at ram (real_byte op) op.len))
+-- the bytes that a load gives: RAM's, or what stands outside RAM gives
+abbrev pub load_bytes : MemOp → State → List ℕ
+load_bytes op state = if is_in_ram op then bytes_at state.ram (real_byte op) op.len else take op.len (device_loaded state.devices (real_byte op) op.len)
+
+-- the number that a load gives
+abbrev pub load_number : Bool → Bool → MemOp → State → ℕ
+load_number signed reversed op state = extended signed op.len (number_of reversed op.len (load_bytes op state))
 
 -- the bytes that a store writes: the low bytes of the register
 abbrev pub store_bytes : Bool → MemOp → List ℕ
@@ -123,7 +129,7 @@ with_success success regs = record regs { cr = regs.cr % 2 ^ 28 + ((if success t
 
 -- what an access makes of the registers
 abbrev pub regs_behind : MemWhat → MemOp → State → Regs
-regs_behind (Load signed reversed reserve) op state = with_reservation reserve op (with_update op (with_gpr state.regs op.to (load_number signed reversed op state.ram)))
+regs_behind (Load signed reversed reserve) op state = with_reservation reserve op (with_update op (with_gpr state.regs op.to (load_number signed reversed op state)))
 regs_behind (Store reversed) op state = with_update op state.regs
 regs_behind (Conditional reversed) op state = with_success (is_reserved op state.regs.reserve) state.regs
 regs_behind Zero op state = state.regs
@@ -139,9 +145,18 @@ ram_behind Zero op state = laid state.ram (real_byte op) (replicate 64 0)
 ram_behind Clean op state = state.ram
 ram_behind Icbi op state = state.ram
 
+-- and of the devices, where RAM isn't: one load or store of one of them
+abbrev pub devices_behind : MemWhat → MemOp → State → DeviceData
+devices_behind (Load signed reversed reserve) op state = if is_in_ram op then state.devices else after_device_load state.devices (real_byte op)
+devices_behind (Store reversed) op state = if is_in_ram op then state.devices else after_device_store state.devices (real_byte op) (store_bytes reversed op)
+devices_behind (Conditional reversed) op state = state.devices
+devices_behind Zero op state = state.devices
+devices_behind Clean op state = state.devices
+devices_behind Icbi op state = state.devices
+
 -- the state behind an access, at the same instruction
 unfoldable pub accessed : MemOp → State → State
-accessed op state = record state { regs = regs_behind op.what op state; ram = ram_behind op.what op state }
+accessed op state = record { regs = regs_behind op.what op state; ram = ram_behind op.what op state; devices = devices_behind op.what op state }
 
 -- how many bytes lie in the first page
 abbrev pub in_page : ℕ → ℕ → ℕ

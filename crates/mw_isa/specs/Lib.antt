@@ -1,7 +1,5 @@
 -- In reading order: the state and its start; one instruction; runs of events; their text and what it spells.
 pub mod Vectors
-pub mod DeviceData
-pub mod Devices
 pub mod State
 pub mod Start
 pub mod Fetch

@@ -2,7 +2,7 @@
 use Rattle.std.specs.Prelude.{ℕ, List, None, replicate}
 use Rattle.mw_bus.specs.Memory.{ram_of}
 use Rattle.mw_isa.specs.declared.regs.Regs.{Regs}
-use Rattle.mw_isa.specs.Devices.{start_devices}
+use Rattle.mw_soc.specs.Devices.{start_devices}
 use Rattle.mw_isa.specs.State.{State}
 
 -- every register is 0, but for SF, HV, ME and LE in MSR; nothing is reserved

@@ -1,7 +1,7 @@
 -- The state of the machine as plain data.
 use Rattle.std.specs.Prelude.{ℕ, List}
-use Rattle.mw_isa.specs.DeviceData.{DeviceData}
-use Rattle.mw_isa.specs.Devices.{devices_at}
+use Rattle.mw_soc.specs.DeviceData.{DeviceData}
+use Rattle.mw_soc.specs.Devices.{devices_at}
 use Rattle.mw_isa.specs.declared.regs.Regs.{Regs}
 use Rattle.mw_isa.specs.declared.state.State.{State as Whole}
 
@@ -17,7 +17,7 @@ state_of regs ram devices = record { regs = regs; ram = ram; devices = devices }
 
 -- the state that the code's object stands for
 abbrev pub seen : Whole → State
-seen whole = state_of whole.regs whole.ram whole.devices
+seen whole = state_of whole.regs whole.ram whole.devices.devices
 
 -- a state whose devices are brought to a cycle
 abbrev pub brought : ℕ → State → State

@@ -7,8 +7,8 @@ use Rattle.mw_isa.specs.declared.event.Event.TheVariants.{Retire, Trap, Irq}
 use Rattle.mw_isa.specs.declared.event.End.{End}
 use Rattle.mw_isa.specs.declared.event.End.TheVariants.{Ran}
 use Rattle.mw_isa.specs.declared.regs.Regs.{Regs}
-use Rattle.mw_isa.specs.DeviceData.{DeviceData}
-use Rattle.mw_isa.specs.Devices.{dec_of}
+use Rattle.mw_soc.specs.DeviceData.{DeviceData}
+use Rattle.mw_soc.specs.Devices.{dec_of}
 use Rattle.mw_isa.specs.Vectors.{address_of}
 use Rattle.mw_isa.specs.State.{State}
 
@@ -85,17 +85,22 @@ software_words regs =
 abbrev pub special_words : Regs → DeviceData → List (List (List ℕ))
 special_words regs devices = program_words regs ++ interrupt_words regs devices ++ software_words regs
 
--- the words of the UART's line: no byte is sent yet
-abbrev pub uart_words : List (List ℕ)
-uart_words = codes "uart" ∷ codes "-" ∷ []
-
--- the words of the lines behind the end's, up to a dump's
-abbrev pub state_words : State → List (List (List ℕ))
-state_words state = map gpr_words (enumerate_from 0 state.regs.gpr) ++ special_words state.regs state.devices ++ uart_words ∷ []
-
 -- bytes in two hexadecimal digits each
 unfoldable pub hex_bytes : List ℕ → List ℕ
 hex_bytes bytes = flat_map (hex 2) bytes
+
+-- the bytes that the UART sent, or a minus where there is none
+abbrev pub sent_word : List ℕ → List ℕ
+sent_word [] = codes "-"
+sent_word (first ∷ others) = hex_bytes (first ∷ others)
+
+-- the words of the UART's line
+abbrev pub uart_words : DeviceData → List (List ℕ)
+uart_words devices = codes "uart" ∷ sent_word devices.uart.output ∷ []
+
+-- the words of the lines behind the end's, up to a dump's
+abbrev pub state_words : State → List (List (List ℕ))
+state_words state = map gpr_words (enumerate_from 0 state.regs.gpr) ++ special_words state.regs state.devices ++ uart_words state.devices ∷ []
 
 -- the words of line k of a dump: its first byte's address, and its bytes, 32 or what is left of the dump
 unfoldable pub row_words : List ℕ → Span → ℕ → List (List ℕ)

@@ -3,7 +3,6 @@
 #![tactic(auto)]
 
 mod access;
-mod devices;
 mod event;
 mod events;
 mod memory;
@@ -14,7 +13,6 @@ mod state;
 mod vector;
 
 pub use access::{Deed, Kind, Span, Touch};
-pub use devices::Devices;
 pub use event::{End, Event};
 pub use events::Events;
 pub use memory::{MemOp, MemWhat};
@@ -34,18 +32,6 @@ mod tests {
     fn the_start_is_the_boards(rt: HostRuntime) {
         // SF, HV, ME and LE are the bits 0, 3, 51 and 63 of MSR, counted from the left.
         assert_eq!(rt; Regs::new().msr, (1 << 63) | (1 << 60) | (1 << 12) | 1);
-        let mut devices = Devices::new();
-        for (cycle, want) in [
-            (0, 0x7fff_ffff),
-            (20000, 0x7fff_b1df),
-            (0x7fff_ffff, 0),
-            (0x8000_0000, 0xffff_ffff),
-            (0x1_0000_0000, 0x7fff_ffff),
-        ] {
-            assert!(rt; devices.cycle() <= cycle);
-            devices.advance(cycle);
-            assert_eq!(rt; devices.dec(), want, "at {cycle}");
-        }
     }
 
     #[test]

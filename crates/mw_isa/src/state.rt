@@ -1,6 +1,6 @@
-use crate::devices::Devices;
 use crate::regs::Regs;
 use mw_bus::Ram;
+use mw_soc::Devices;
 
 /// The whole state of the machine: registers, RAM and devices.
 #[derive(Drop)]

@@ -1,5 +1,5 @@
 use Rattle.std.proofs.Common.{Some, refl, sym, ap, ◌∙◌}
-use Rattle.mw_isa.specs.Devices.{cycle_of}
+use Rattle.mw_soc.specs.Devices.{cycle_of}
 use Rattle.mw_isa.specs.State.{State, seen}
 use Rattle.mw_decode.specs.declared.insn.Decoded.TheVariants.{Insn as Is, Illegal}
 use Rattle.mw_isa.proofs.StepLaws.{after_of-devices}
