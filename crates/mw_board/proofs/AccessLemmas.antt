@@ -1,22 +1,28 @@
 -- Numbers in RAM, as the code reads and writes them: in the front of eight bytes.
-use Rattle.std.proofs.Common.{◌≡◌, ℕ, ◌%◌, ◌^◌, ◌<◌, Bool, List, length, take, sym, ap, ap₂, ◌∙◌, subst, arith, mod-lt}
+use Rattle.std.proofs.Common.{◌≡◌, ℕ, ◌%◌, ◌^◌, ◌<◌, Bool, true, cond, List, length, take, sym, ap, ap₂, ◌∙◌, subst, arith, mod-lt}
 use Rattle.std.proofs.Math.Nat.{one-le-pow}
+use Rattle.mw_soc.specs.DeviceData.{DeviceData}
+use Rattle.mw_soc.specs.Map.{device_loaded}
+use Rattle.mw_isa.specs.declared.memory.MemOp.{MemOp}
+use Rattle.mw_isa.specs.Access.{is_in_ram, real_byte, load_bytes}
 use Rattle.mw_bus.specs.Memory.{bytes_at, laid, number_of, bytes_of, padded}
 use Rattle.mw_bus.proofs.StorageLemmas.{take-padded, length-bytes_at, length-bytes_of}
 
--- a number that was read
-pub number-read : (reversed : Bool) (ram : List ℕ) (at real k len n : ℕ) (bytes : List ℕ) → at ≡ real → k ≡ len → bytes ≡ padded (bytes_at ram at k) → n ≡ number_of reversed (length (take k bytes)) (take k bytes) → n ≡ number_of reversed len (bytes_at ram real len)
-number-read reversed ram at real k len n bytes same sized read e =
-    let front : take k bytes ≡ bytes_at ram real len =
-    ap (take k) read ∙ take-padded (bytes_at ram at k) k (length-bytes_at ram at k) ∙ ap₂ (bytes_at ram) same sized in
-    e ∙ ap₂ (λ (i : ℕ) (xs : List ℕ). number_of reversed i xs) (ap length front ∙ length-bytes_at ram real len) front
+-- bytes that were read from RAM
+pub bytes-read : (ram : List ℕ) (at real k len : ℕ) (bytes : List ℕ) → at ≡ real → k ≡ len → bytes ≡ padded (bytes_at ram at k) → take len bytes ≡ bytes_at ram real len
+bytes-read ram at real k len bytes same sized read =
+    ap₂ take (sym sized) read ∙ take-padded (bytes_at ram at k) k (length-bytes_at ram at k) ∙ ap₂ (bytes_at ram) same sized
 
--- a number that was written
-pub number-written : (reversed : Bool) (ram new bytes : List ℕ) (at real k len low value : ℕ) → at ≡ real → k ≡ len → low ≡ value % 256 ^ len → bytes ≡ padded (bytes_of reversed k low) → new ≡ laid ram at (take k bytes) → new ≡ laid ram real (bytes_of reversed len (value % 256 ^ len))
-number-written reversed ram new bytes at real k len low value same sized is wrote e =
-    let front : take k bytes ≡ bytes_of reversed len (value % 256 ^ len) =
-    ap (take k) wrote ∙ take-padded (bytes_of reversed k low) k (length-bytes_of reversed k low) ∙ ap₂ (bytes_of reversed) sized is in
-    e ∙ ap₂ (laid ram) same front
+-- they are those of a load where RAM is
+pub load-there : (op : MemOp) (ram : List ℕ) (devices : DeviceData) (at k : ℕ) (bytes : List ℕ) → at ≡ real_byte op → k ≡ op.len → bytes ≡ padded (bytes_at ram at k) → true ≡ is_in_ram op → take op.len bytes ≡ load_bytes op ram devices
+load-there op ram devices at k bytes same sized read there =
+    bytes-read ram at (real_byte op) k op.len bytes same sized read
+    ∙ ap (λ (b : Bool). cond b (bytes_at ram (real_byte op) op.len) (take op.len (device_loaded devices (real_byte op) op.len))) there
+
+-- bytes that a number was turned into
+pub bytes-written : (reversed : Bool) (bytes : List ℕ) (k len low value : ℕ) → k ≡ len → low ≡ value % 256 ^ len → bytes ≡ padded (bytes_of reversed k low) → take len bytes ≡ bytes_of reversed len (value % 256 ^ len)
+bytes-written reversed bytes k len low value sized is wrote =
+    ap₂ take (sym sized) wrote ∙ take-padded (bytes_of reversed k low) k (length-bytes_of reversed k low) ∙ ap₂ (bytes_of reversed) sized is
 
 -- the low bytes of a number fit
 pub low-fits : (low value k len : ℕ) → k ≡ len → low ≡ value % 256 ^ len → low < 256 ^ k

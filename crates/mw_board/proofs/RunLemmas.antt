@@ -17,7 +17,8 @@ use Rattle.mw_isa.specs.Step.{step, builds}
 use Rattle.mw_isa.specs.Replay.{acted, replay, state_after, cycle_of_event, cycles_of}
 use Rattle.mw_isa.specs.Unbuilt.{unbuilt_from, first_unbuilt}
 use Rattle.mw_isa.specs.Runs.{Runs}
-use Rattle.mw_isa.proofs.StepLaws.{step-devices}
+use Rattle.mw_soc.proofs.Laws.{cycle-devices_at}
+use Rattle.mw_isa.proofs.StepLaws.{step-cycle}
 use Rattle.mw_isa.proofs.ReplayLaws.{replay-push}
 use Rattle.mw_board.specs.Plain.{Turns}
 
@@ -75,14 +76,15 @@ pub made-more : (image : List ℕ) (n : ℕ) (events : List Event) (cycle : ℕ)
 made-more image n events cycle event state after below m t =
     let left : n - cycle ≡ suc (n - (cycle + 1)) = omega arith in
     let from : 0 + cycle ≡ cycle = omega arith in
-    let d : after.devices ≡ (brought cycle state).devices = ap (λ (s : State). s.devices) (sym t.steps) ∙ step-devices (brought cycle state) in
-    let at : cycle_of after.devices ≡ cycle = ap cycle_of d in
+    let now : cycle_of_event event ≡ cycle = t.cycle ∙ cycle-devices_at state.devices cycle in
+    let at : cycle_of after.devices ≡ cycle =
+    ap (λ (s : State). cycle_of s.devices) (sym t.steps) ∙ step-cycle (brought cycle state) ∙ cycle-devices_at state.devices cycle in
     let u : unbuilt_from (n - cycle) cycle state ≡ unbuilt_from (n - (cycle + 1)) (cycle + 1) after =
     ap (λ (l : ℕ). unbuilt_from l cycle state) left
     ∙ ap₂ (λ (b : Bool) (s : State). cond b (unbuilt_from (n - (cycle + 1)) (cycle + 1) s) (Some (cycle, state.regs.cia))) t.built t.steps in
     record {
-      made = replay-push events event (start image) state after m.made (ap (λ (k : ℕ). acted event (brought k state)) t.cycle ∙ t.acts);
-      cycles = map-append cycle_of_event events (event ∷ []) ∙ ap₂ (λ (xs : List ℕ) (k : ℕ). xs ++ k ∷ []) m.cycles t.cycle ∙ sym (range_with_len-more 0 cycle cycle from);
+      made = replay-push events event (start image) state after m.made (ap (λ (k : ℕ). acted event (brought k state)) now ∙ t.acts);
+      cycles = map-append cycle_of_event events (event ∷ []) ∙ ap₂ (λ (xs : List ℕ) (k : ℕ). xs ++ k ∷ []) m.cycles now ∙ sym (range_with_len-more 0 cycle cycle from);
       ahead = sym u ∙ m.ahead;
       stands = omega arith;
     }

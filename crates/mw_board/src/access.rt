@@ -1,12 +1,13 @@
-ghost use Rattle.std.specs.Prelude.{◌≡◌, ◌<◌, ◌≤◌, ◌%◌, ◌^◌, true, replicate, if◌then◌else◌};
+ghost use Rattle.std.specs.Prelude.{◌≡◌, ◌<◌, ◌≤◌, ◌+◌, ◌%◌, ◌^◌, true, false, length, take, replicate, if◌then◌else◌};
 ghost use Rattle.mw_bus.specs.Memory.{bytes_at, laid, number_of};
-ghost use Rattle.mw_isa.specs.Access.{IsSized, accessed, block_of, first_byte, is_aligned, is_built_access, is_exclusive, is_in_ram, is_reserved, load_number, needs_ram, ram_behind, raises_alignment, reaches_controller, real_byte, regs_behind, stored, with_gpr, with_reservation, with_success, with_update};
+ghost use Rattle.mw_isa.specs.Access.{IsSized, accessed, block_of, first_byte, is_aligned, is_built_access, is_exclusive, is_in_ram, is_reserved, devices_loaded, devices_stored, load_bytes, load_number, needs_ram, ram_behind, raises_alignment, reaches_controller, real_byte, regs_behind, store_bytes, stored, with_gpr, with_reservation, with_success, with_update};
 ghost use Rattle.mw_isa.specs.Fetch.{real_of};
 ghost use Rattle.mw_isa.specs.State.{seen};
 
 use mw_bits::sext;
 use mw_bus::{Ram, number, number_bytes};
 use mw_isa::{MemOp, MemWhat, Regs, State};
+use mw_soc::Devices;
 
 /// The real address of an effective one while translation is off.
 pub fn real(effective: u64) -> u64
@@ -105,24 +106,42 @@ pub fn can_access(op: &MemOp) -> bool
     !is_misaligned(op) && !meets_controller(op)
 }
 
-/// The number that the bytes hold.
-fn number_there(reversed: bool, op: &MemOp, ram: &Ram) -> u64
+/// The bytes that a load gives, with something behind them: RAM's, or a device's, which is loaded once.
+fn load_eight(op: &MemOp, ram: &Ram, devices: &mut Devices) -> [u8; 8]
     requires some { 1 ≤ op.now.len }
     requires few { op.now.len ≤ 8 }
-    ensures { result ≡ number_of reversed op.now.len (bytes_at ram.now (real_byte op.now) op.now.len) }
+    requires one_slot { is_in_ram op.now ≡ false → real_byte op.now % 8 + op.now.len ≤ 8 }
+    ensures bytes { take op.now.len result ≡ load_bytes op.now ram.now devices.old.devices }
+    ensures after { devices.new ≡ record devices.old { devices = devices_loaded op.now devices.old.devices } }
 {
-    let len = usize::from(op.len);
-    let bytes = ram.read(start(op), len);
-    number(reversed, &bytes[..len])
+    if lies_in_ram(op) {
+        ram.read(start(op), usize::from(op.len))
+    } else {
+        devices.load(start(op), op.len)
+    }
+}
+
+/// The number that the bytes of a load hold.
+fn number_there(reversed: bool, op: &MemOp, ram: &Ram, devices: &mut Devices) -> u64
+    requires some { 1 ≤ op.now.len }
+    requires few { op.now.len ≤ 8 }
+    requires one_slot { is_in_ram op.now ≡ false → real_byte op.now % 8 + op.now.len ≤ 8 }
+    ensures value { result ≡ number_of reversed op.now.len (load_bytes op.now ram.now devices.old.devices) }
+    ensures after { devices.new ≡ record devices.old { devices = devices_loaded op.now devices.old.devices } }
+{
+    let bytes = load_eight(op, ram, devices);
+    number(reversed, &bytes[..usize::from(op.len)])
 }
 
 /// The number that a load gives.
-fn load(signed: bool, reversed: bool, op: &MemOp, ram: &Ram) -> u64
+fn load(signed: bool, reversed: bool, op: &MemOp, ram: &Ram, devices: &mut Devices) -> u64
     requires some { 1 ≤ op.now.len }
     requires few { op.now.len ≤ 8 }
-    ensures { result ≡ load_number signed reversed op.now ram.now }
+    requires one_slot { is_in_ram op.now ≡ false → real_byte op.now % 8 + op.now.len ≤ 8 }
+    ensures value { result ≡ load_number signed reversed op.now ram.now devices.old.devices }
+    ensures after { devices.new ≡ record devices.old { devices = devices_loaded op.now devices.old.devices } }
 {
-    let loaded = number_there(reversed, op, ram);
+    let loaded = number_there(reversed, op, ram, devices);
     if signed {
         sext(loaded, 8 * u32::from(op.len))
     } else {
@@ -148,15 +167,37 @@ fn low(value: u64, len: u8) -> u64
     }
 }
 
-/// Stores the low bytes of the register.
+/// The bytes that a store writes, the low ones of the register, with zeros behind them.
+fn store_eight(reversed: bool, op: &MemOp) -> [u8; 8]
+    requires some { 1 ≤ op.now.len }
+    requires few { op.now.len ≤ 8 }
+    ensures bytes { take op.now.len result ≡ store_bytes reversed op.now }
+    ensures len { length result ≡ 8 }
+{
+    number_bytes(reversed, usize::from(op.len), low(op.value, op.len))
+}
+
+/// Stores to RAM, where RAM is.
 fn store(reversed: bool, op: &MemOp, ram: &mut Ram)
     requires some { 1 ≤ op.now.len }
     requires few { op.now.len ≤ 8 }
     ensures { ram.new ≡ stored reversed op.now ram.old }
 {
-    let len = usize::from(op.len);
-    let bytes = number_bytes(reversed, len, low(op.value, op.len));
-    ram.write(start(op), &bytes[..len]);
+    let bytes = store_eight(reversed, op);
+    ram.write(start(op), &bytes[..usize::from(op.len)]);
+}
+
+/// Stores to the device that stands there, where RAM isn't.
+fn store_device(reversed: bool, op: &MemOp, devices: &mut Devices)
+    requires some { 1 ≤ op.now.len }
+    requires few { op.now.len ≤ 8 }
+    requires one_slot { is_in_ram op.now ≡ false → real_byte op.now % 8 + op.now.len ≤ 8 }
+    ensures { devices.new ≡ record devices.old { devices = devices_stored reversed op.now devices.old.devices } }
+{
+    if !lies_in_ram(op) {
+        let bytes = store_eight(reversed, op);
+        devices.store(start(op), &bytes[..usize::from(op.len)]);
+    }
 }
 
 /// The number of the block that the access lies in.
@@ -220,9 +261,11 @@ fn load_into(signed: bool, reversed: bool, reserve: bool, op: &MemOp, state: &mu
     requires some { 1 ≤ op.now.len }
     requires few { op.now.len ≤ 8 }
     requires block { reserve ≡ true → block_of op.now < 2 ^ 32 }
-    ensures { seen state.new ≡ record (seen state.old) { regs = regs_behind (MemWhat.Load signed reversed reserve) op.now (seen state.old) } }
+    requires one_slot { is_in_ram op.now ≡ false → real_byte op.now % 8 + op.now.len ≤ 8 }
+    ensures value { seen state.new ≡ record (seen state.old) { regs = regs_behind (MemWhat.Load signed reversed reserve) op.now (seen state.old); devices = devices_loaded op.now (seen state.old).devices } }
+    ensures room { state.new.devices.room ≡ state.old.devices.room }
 {
-    let loaded = load(signed, reversed, op, &state.ram);
+    let loaded = load(signed, reversed, op, &state.ram, &mut state.devices);
     set_gpr(&mut state.regs, op.to, loaded);
     update(op, &mut state.regs);
     reserve_block(reserve, op, &mut state.regs);
@@ -232,9 +275,12 @@ fn load_into(signed: bool, reversed: bool, reserve: bool, op: &MemOp, state: &mu
 fn store_from(reversed: bool, op: &MemOp, state: &mut State)
     requires some { 1 ≤ op.now.len }
     requires few { op.now.len ≤ 8 }
-    ensures { seen state.new ≡ record (seen state.old) { regs = regs_behind (MemWhat.Store reversed) op.now (seen state.old); ram = ram_behind (MemWhat.Store reversed) op.now (seen state.old) } }
+    requires one_slot { is_in_ram op.now ≡ false → real_byte op.now % 8 + op.now.len ≤ 8 }
+    ensures value { seen state.new ≡ record { regs = regs_behind (MemWhat.Store reversed) op.now (seen state.old); ram = ram_behind (MemWhat.Store reversed) op.now (seen state.old); devices = devices_stored reversed op.now (seen state.old).devices } }
+    ensures room { state.new.devices.room ≡ state.old.devices.room }
 {
     store(reversed, op, &mut state.ram);
+    store_device(reversed, op, &mut state.devices);
     update(op, &mut state.regs);
 }
 
@@ -253,7 +299,8 @@ fn store_where(success: bool, reversed: bool, op: &MemOp, ram: &mut Ram)
 fn store_if_reserved(reversed: bool, op: &MemOp, state: &mut State)
     requires some { 1 ≤ op.now.len }
     requires few { op.now.len ≤ 8 }
-    ensures { seen state.new ≡ record (seen state.old) { regs = regs_behind (MemWhat.Conditional reversed) op.now (seen state.old); ram = ram_behind (MemWhat.Conditional reversed) op.now (seen state.old) } }
+    ensures value { seen state.new ≡ record (seen state.old) { regs = regs_behind (MemWhat.Conditional reversed) op.now (seen state.old); ram = ram_behind (MemWhat.Conditional reversed) op.now (seen state.old) } }
+    ensures room { state.new.devices.room ≡ state.old.devices.room }
 {
     let success = holds(op, state.regs.reserve);
     store_where(success, reversed, op, &mut state.ram);
@@ -272,7 +319,8 @@ fn zero_block(op: &MemOp, ram: &mut Ram)
 pub fn access(op: &MemOp, state: &mut State)
     requires sized { IsSized op.now }
     requires built { is_built_access op.now ≡ true }
-    ensures { seen state.new ≡ accessed op.now (seen state.old) }
+    ensures value { seen state.new ≡ accessed op.now (seen state.old) }
+    ensures room { state.new.devices.room ≡ state.old.devices.room }
 {
     match op.what {
         MemWhat::Load {

@@ -127,7 +127,8 @@ fn write_targets(regs: &mut Regs, targets: &[Target])
 fn write_outcome(state: &mut State, outcome: &Outcome)
     requires sized { OnMemory IsSized outcome.now }
     requires built { is_built_outcome (Some outcome.now) ≡ true }
-    ensures { seen state.new ≡ written outcome.now (seen state.old) }
+    ensures value { seen state.new ≡ written outcome.now (seen state.old) }
+    ensures room { state.new.devices.room ≡ state.old.devices.room }
 {
     match outcome {
         Outcome::Done { targets, .. } => write_targets(&mut state.regs, targets.as_slice()),
@@ -149,7 +150,8 @@ fn next(outcome: &Outcome, cia: u64) -> u64
 fn retire(state: &mut State, cia: u64, outcome: &Outcome)
     requires sized { OnMemory IsSized outcome.now }
     requires built { is_built_outcome (Some outcome.now) ≡ true }
-    ensures { seen state.new ≡ after_of (Some outcome.now) cia (seen state.old) }
+    ensures value { seen state.new ≡ after_of (Some outcome.now) cia (seen state.old) }
+    ensures room { state.new.devices.room ≡ state.old.devices.room }
 {
     write_outcome(state, outcome);
     state.regs.cia = next(outcome, cia);
@@ -175,7 +177,8 @@ fn has_built_form(insn: &Insn) -> bool
 
 /// Carries out the next instruction at the devices' cycle, if it is built.
 pub fn turn(state: &mut State) -> Option<Event>
-    ensures { Turns result (seen state.old) (seen state.new) }
+    ensures turns { Turns result (seen state.old) (seen state.new) }
+    ensures room { state.new.devices.room ≡ state.old.devices.room }
 {
     let cia = state.regs.cia;
     let words = fetch(&state.ram, cia);

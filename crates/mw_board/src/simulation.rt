@@ -9,7 +9,8 @@ ghost use Rattle.mw_board.specs.Faults.{HasCause};
 use crate::plain::turn;
 use crate::run::{Run, RunFault};
 use mw_bus::{RAM_SIZE, Ram};
-use mw_isa::{Devices, End, Events, Regs, State};
+use mw_isa::{End, Events, Regs, State};
+use mw_soc::Devices;
 use std::alloc::Global;
 
 /// Runs an image for `n` cycles, an instruction a cycle, from the machine's start with the image at real
@@ -29,10 +30,13 @@ pub fn simulate(alloc: Global, image: &[u8], n: u64) -> Result<Run, RunFault>
     let Ok(ram) = Ram::new(alloc, image) else {
         return Err(RunFault::NoMemory);
     };
+    let Ok(devices) = Devices::new(alloc, n / 160) else {
+        return Err(RunFault::NoMemory);
+    };
     let mut state = State {
         regs: Regs::new(),
         ram,
-        devices: Devices::new(),
+        devices,
     };
     let mut events = Events::new(alloc);
     for cycle in 0..n {

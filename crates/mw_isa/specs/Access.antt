@@ -103,12 +103,16 @@ abbrev pub extended : Bool → ℕ → ℕ → ℕ
 extended signed len number = if signed then sext_of number (8 * len) else number
 
 -- the bytes that a load gives: RAM's, or what stands outside RAM gives
-abbrev pub load_bytes : MemOp → State → List ℕ
-load_bytes op state = if is_in_ram op then bytes_at state.ram (real_byte op) op.len else take op.len (device_loaded state.devices (real_byte op) op.len)
+abbrev pub load_bytes : MemOp → List ℕ → DeviceData → List ℕ
+load_bytes op ram devices = if is_in_ram op then bytes_at ram (real_byte op) op.len else take op.len (device_loaded devices (real_byte op) op.len)
 
 -- the number that a load gives
-abbrev pub load_number : Bool → Bool → MemOp → State → ℕ
-load_number signed reversed op state = extended signed op.len (number_of reversed op.len (load_bytes op state))
+abbrev pub load_number : Bool → Bool → MemOp → List ℕ → DeviceData → ℕ
+load_number signed reversed op ram devices = extended signed op.len (number_of reversed op.len (load_bytes op ram devices))
+
+-- the devices behind a load, which one of them sees where RAM isn't
+abbrev pub devices_loaded : MemOp → DeviceData → DeviceData
+devices_loaded op devices = if is_in_ram op then devices else after_device_load devices (real_byte op)
 
 -- the bytes that a store writes: the low bytes of the register
 abbrev pub store_bytes : Bool → MemOp → List ℕ
@@ -117,6 +121,10 @@ store_bytes reversed op = bytes_of reversed op.len (op.value % 256 ^ op.len)
 -- RAM behind a store; a byte where RAM isn't vanishes
 abbrev pub stored : Bool → MemOp → List ℕ → List ℕ
 stored reversed op ram = laid ram (real_byte op) (store_bytes reversed op)
+
+-- the devices behind a store, which one of them sees where RAM isn't
+abbrev pub devices_stored : Bool → MemOp → DeviceData → DeviceData
+devices_stored reversed op devices = if is_in_ram op then devices else after_device_store devices (real_byte op) (store_bytes reversed op)
 
 -- a reservation stands for the block
 abbrev pub is_reserved : MemOp → Option ℕ → Bool
@@ -129,7 +137,7 @@ with_success success regs = record regs { cr = regs.cr % 2 ^ 28 + ((if success t
 
 -- what an access makes of the registers
 abbrev pub regs_behind : MemWhat → MemOp → State → Regs
-regs_behind (Load signed reversed reserve) op state = with_reservation reserve op (with_update op (with_gpr state.regs op.to (load_number signed reversed op state)))
+regs_behind (Load signed reversed reserve) op state = with_reservation reserve op (with_update op (with_gpr state.regs op.to (load_number signed reversed op state.ram state.devices)))
 regs_behind (Store reversed) op state = with_update op state.regs
 regs_behind (Conditional reversed) op state = with_success (is_reserved op state.regs.reserve) state.regs
 regs_behind Zero op state = state.regs
@@ -145,10 +153,10 @@ ram_behind Zero op state = laid state.ram (real_byte op) (replicate 64 0)
 ram_behind Clean op state = state.ram
 ram_behind Icbi op state = state.ram
 
--- and of the devices, where RAM isn't: one load or store of one of them
+-- and of the devices
 abbrev pub devices_behind : MemWhat → MemOp → State → DeviceData
-devices_behind (Load signed reversed reserve) op state = if is_in_ram op then state.devices else after_device_load state.devices (real_byte op)
-devices_behind (Store reversed) op state = if is_in_ram op then state.devices else after_device_store state.devices (real_byte op) (store_bytes reversed op)
+devices_behind (Load signed reversed reserve) op state = devices_loaded op state.devices
+devices_behind (Store reversed) op state = devices_stored reversed op state.devices
 devices_behind (Conditional reversed) op state = state.devices
 devices_behind Zero op state = state.devices
 devices_behind Clean op state = state.devices
