@@ -5,3 +5,6 @@ mod devices;
 mod system;
 
 pub use devices::Devices;
+
+#[cfg(test)]
+mod tests;
