@@ -1,7 +1,7 @@
 -- The data of the devices.
 use Rattle.std.specs.Prelude.{ℕ}
 
--- the cycle that they stand at, the decrementer as it was last written, and the cycle of that writing
+-- the cycle that they stand at, what the last write gave the decrementer, and when that was
 pub record DeviceData : Type 0 where
   pub cycle : ℕ
   pub dec : ℕ

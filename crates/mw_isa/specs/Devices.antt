@@ -14,6 +14,6 @@ cycle_of devices = devices.cycle
 abbrev pub devices_at : DeviceData → ℕ → DeviceData
 devices_at devices cycle = record devices { cycle = cycle }
 
--- the decrementer: the value last written minus the cycles since, in 32 bits
+-- the decrementer, in 32 bits: one less each cycle from what the last write gave it (Book III, decrementer)
 abbrev pub dec_of : DeviceData → ℕ
 dec_of devices = (devices.dec + (2 ^ 32 - (devices.cycle - devices.dec_at) % 2 ^ 32)) % 2 ^ 32
