@@ -11,7 +11,7 @@ pub const RAM_SIZE: usize = 16777216;
 /// How many real addresses there are. An operand goes on at 0 behind the last one.
 const REAL_SIZE: u64 = 0x1000_0000_0000_0000;
 
-/// The board's RAM, seen as a list of 16,777,216 bytes.
+/// The board's RAM, seen as the list of its bytes from real address 0 on, always 16,777,216 of them.
 #[derive(Drop)]
 pub struct Ram {
     bytes: Vec<u8>,
@@ -86,8 +86,9 @@ impl Ram {
         &self.bytes[at..at + len]
     }
 
-    /// The first `len` bytes of the result are those from a real address on, and zeros follow. The
-    /// operand goes on at 0 behind the last real address, and a byte where RAM isn't reads as all ones.
+    /// The bytes of an operand of 0 to 8 bytes from a real address on, in the order of storage, and
+    /// zeros behind them (Book I, storage operands). The address is in bytes, below 2^60; behind the
+    /// last one the operand goes on at 0. A byte where RAM isn't reads as all ones. It can't fail.
     pub fn read(&self, at: u64, len: usize) -> [u8; 8]
         requires real { at < 2 ^ 60 }
         requires short { len ≤ 8 }
@@ -109,8 +110,9 @@ impl Ram {
         }
     }
 
-    /// Stores the bytes from a real address on, and changes no other byte. The operand goes on at 0
-    /// behind the last real address, and a byte is lost where RAM isn't.
+    /// Stores an operand's bytes, in the order of storage, from a real address on, and changes no other
+    /// byte (Book I, storage operands). The address is in bytes, below 2^60; behind the last one the
+    /// operand goes on at 0. A byte is lost where RAM isn't. It can't fail.
     pub fn write(&mut self, at: u64, piece: &[u8])
         requires { at < 2 ^ 60 }
         ensures { self.new ≡ laid self.old at piece.now }

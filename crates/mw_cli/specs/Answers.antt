@@ -86,22 +86,22 @@ YieldsTo status = (status ≡ ReadFault) ⊎ (status ≡ NoMemory)
 pub record Answers (call : Call) (status : Status) : Type 0 where
   -- each status says why it comes, and what out and err took
   pub says : Says call status
-  -- Usage comes exactly where the words are no order
+  -- it is Usage if and only if the words are no order
   pub usage : (status ≡ Usage) ↔ (order_of call.words ≡ None)
-  -- ReadFault comes only where the host's count rose in this call
+  -- with ReadFault the host's count rose
   pub read_fault : status ≡ ReadFault → Rose call.host.faults_before call.host.faults_after
-  -- and over a sound host only where the file that the words name isn't there
+  -- and if the host is sound, the image's file isn't there
   pub absent : status ≡ ReadFault → IsTrue call.host.sound → IsSomeAnd (order_of call.words) (λ order. IsSomeAnd call.host.files (λ told. told order.image ≡ None))
-  -- WriteFault comes only where out's count of faults rose in this call
+  -- with WriteFault out's count of faults rose
   pub write_fault : status ≡ WriteFault → Rose call.out.faults_before call.out.faults_after
-  -- ImageTooLarge comes only where the image is longer than RAM
+  -- with ImageTooLarge the image is longer than RAM
   pub too_large : status ≡ ImageTooLarge → IsSomeAnd (order_of call.words) (λ order. IsTooLong call.host order)
   -- and always there, but for a file that isn't read and for want of memory
   pub always_too_large : (order : Order) (told : List ℕ → Option (List ℕ)) → Asks call order told → 16777216 < length (content_of told order.image) → (status ≡ ImageTooLarge) ⊎ YieldsTo status
-  -- Unbuilt comes only where the run reaches an instruction that isn't built
+  -- with Unbuilt the run reaches an instruction that isn't built
   pub unbuilt : status ≡ Unbuilt → IsSomeAnd (order_of call.words) (λ order. (cia : ℕ) × StopsAt call.host order cia)
   -- and always there, but for a file that isn't read and for want of memory
   pub always_unbuilt : (order : Order) (told : List ℕ → Option (List ℕ)) (cia : ℕ) → Asks call order told → length (content_of told order.image) ≤ 16777216 → ReachesUnbuilt (content_of told order.image) order.cycles cia → (status ≡ Unbuilt) ⊎ YieldsTo status
-  -- An order of an image that fits, whose run meets no instruction that isn't built, over a host and an out whose
-  -- counts don't rise, is done, or memory is wanting
+  -- what is left is done, unless memory is wanting: an order of an image that fits, with all of its run built, where
+  -- neither the host's count nor out's count of faults rose
   pub complete : (order : Order) (told : List ℕ → Option (List ℕ)) → Asks call order told → length (content_of told order.image) ≤ 16777216 → first_unbuilt (content_of told order.image) order.cycles ≡ None → ¬ (Rose call.host.faults_before call.host.faults_after) → ¬ (Rose call.out.faults_before call.out.faults_after) → (status ≡ Done) ⊎ (status ≡ NoMemory)

@@ -56,12 +56,13 @@ fn obey<H: Host, O: Sink, E: Sink>(
     }
 }
 
-/// Does what the words behind the program's name ask for, and answers how the program ends. `run IMAGE --cycles N` reads
-/// the image from the host, at most 16,777,216 bytes, runs it from address 0 for N cycles, at most 4,000,000, and writes
-/// the text of the run to out. `--dump A:L` behind it adds the L bytes of RAM from real address A on, as the run leaves
-/// them: L is 1 to 65,536, and A + L at most 16,777,216. `Done` leaves err as it was, and any other status writes its
-/// line there. Out takes nothing under another status, but for `WriteFault` and `NoMemory`, which may leave a front of the
-/// text. A failed write to err changes no status.
+/// Does what the words behind the program's name ask for, and answers how the program ends. `run IMAGE --cycles N`
+/// reads the image from the host, 16,777,216 bytes at most, runs it from address 0 for N cycles, at most 4,000,000, and
+/// writes the text of the run to out. `--dump A:L` behind it adds the L bytes of RAM from real address A on, as the run
+/// leaves them: at least one byte and at most 65,536, all of them in RAM. Reading stops one byte past RAM's size.
+/// `Done` leaves err as it was, and any other status writes its line there, or a front of it where a write to err
+/// fails; the status stays what it is. Out takes nothing under another status, but for `WriteFault` and `NoMemory`,
+/// which may leave a front of the text.
 pub fn mw_main<H: Host, O: Sink, E: Sink>(
     alloc: Global,
     words: &[String],

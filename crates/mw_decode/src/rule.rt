@@ -38,8 +38,9 @@ fn forbids(rule: Rule, ops: &[i64]) -> bool
     }
 }
 
-/// Whether the row at a place of the table is an illegal form with these operands: a load with
-/// update whose RA is 0 or RT, or a store with update whose RA is 0. A missing operand counts as 0.
+/// Whether the row at a place of the table is an illegal form with these operands (Book I, fixed-point
+/// load and store). With update a load may have neither 0 nor RT as RA, and a store no 0. A missing
+/// operand counts as 0.
 pub fn is_illegal_form(row: u16, ops: &[i64]) -> bool
     requires { row < row_count }
     ensures { result ≡ is_illegal_form row ops.now }

@@ -23,8 +23,8 @@ pub trait Host {
     /// Whether the host tells its files and fails only where it opens a name that is not among them.
     ghost is_sound: { Self → Bool };
 
-    /// Opens a file from its start, in place of a file that is open. A name that is not among the files may open as an
-    /// empty file. After an `Err` no file is open.
+    /// Opens a file at its first byte, and leaves the one that was open before. A name that is not among the files may
+    /// open as an empty file. After an `Err` no file is open.
     fn open(&mut self, name: &str) -> Result<(), HostFailed>
         ensures opened { is_open self.new ≡ is_ok result }
         ensures start { OnOk result (IfSome (files self.old) (λ told. rest self.new ≡ content_of told name.now)) }

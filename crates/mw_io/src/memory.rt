@@ -11,7 +11,7 @@ use crate::sure::SureSink;
 use std::alloc::{AllocError, Global};
 
 /// Files in memory. A call whose number is in a list fails, and so does the opening of a name that is not among the files.
-/// The calls of `open` and `read` are counted together, from 0.
+/// Its calls, `open` and `read` alike, have one count from 0 on.
 #[derive(Drop)]
 pub struct MemHost {
     shelf: Shelf,

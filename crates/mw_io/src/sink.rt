@@ -6,7 +6,9 @@ ghost use Rattle.mw_io.specs.Outside.{Counts, with_more};
 /// Why a sink took nothing.
 #[derive(Clone, Copy, Debug, PartialEq, Eq)]
 pub enum SinkFault {
+    /// The call failed, and the sink's count of faults rose.
     Failed,
+    /// Memory was wanting, and the sink's count of wants rose.
     NoMemory,
 }
 

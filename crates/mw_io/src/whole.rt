@@ -26,7 +26,9 @@ pub fn write_all<S: Sink>(sink: &mut S, bytes: &[u8]) -> Result<(), SinkFault>
 /// Why a file was not read.
 #[derive(Clone, Copy, Debug, PartialEq, Eq)]
 pub enum ReadFault {
+    /// A read of the host failed, and its count of faults rose.
     Failed,
+    /// There was no memory for the bytes.
     NoMemory,
 }
 
@@ -77,7 +79,10 @@ fn read_piece<H: Host>(
     Ok(count)
 }
 
-/// Reads the open file from where it is to its end, or to one byte past the limit where it goes on so long.
+/// Reads the open file from where it is to its end, or to one byte past the limit where it goes on so long. The limit
+/// is in bytes, so at most `limit + 1` of them are read and answered. The error is `Failed` where a read of the host
+/// failed, which over a sound host none does, and `NoMemory` where memory is wanting; some bytes may be read by then.
+/// The file stays open.
 pub fn read_up_to<H: Host>(alloc: Global, host: &mut H, limit: usize) -> Result<Vec<u8>, ReadFault>
     requires opened { IsTrue (H.is_open host.old) }
     requires limit { limit + 1 < 2 ^ 64 }

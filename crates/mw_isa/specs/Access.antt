@@ -1,5 +1,6 @@
 -- An access to storage in real mode (Book I, storage operands; Book II, atomic update, cache management and the
--- reservation; Book III, real addressing and alignment).
+-- reservation; Book III, real addressing). Which accesses raise an alignment interrupt, and the blocks of 64 bytes, are
+-- this board's own choice; Book III has what the interrupt is.
 use Rattle.std.specs.Prelude.{ℕ, ◌≡◌, ◌+◌, ◌-◌, ◌*◌, ◌/◌, ◌%◌, ◌^◌, ◌==◌, Bool, true, false, not, ◌&&◌, ◌||◌, if◌then◌else◌, nat_lt, nat_le, List, [], ◌∷◌, take, replicate, Option, Some, None, slice_set}
 use Rattle.std.specs.Option.{option_map_or}
 use Rattle.mw_bits.specs.Fields.{sext_of}
@@ -69,8 +70,8 @@ abbrev pub needs_ram : MemWhat → Bool
 needs_ram Zero = true
 needs_ram what = is_exclusive what
 
--- an alignment interrupt: an exclusive access whose address isn't a multiple of its length, or one with a byte outside
--- RAM that isn't aligned or needs RAM
+-- an access that raises an alignment interrupt (own choice; the interrupt itself is in Book III): an exclusive one that
+-- isn't aligned, or one with a byte outside RAM that isn't aligned or needs RAM
 abbrev pub raises_alignment : MemOp → Bool
 raises_alignment op = (is_exclusive op.what && not (is_aligned op)) || (not (is_in_ram op) && (not (is_aligned op) || needs_ram op.what))
 

@@ -1,4 +1,4 @@
--- What a text spells: the events and the end whose lines stand in it.
+-- What a text spells: the events and the end that its lines are those of.
 use Rattle.std.specs.Prelude.{ℕ, ◌≡◌, ◌==◌, ◌^◌, ◌<◌, Bool, true, false, ◌&&◌, if◌then◌else◌, nat_lt, List, [], ◌∷◌, ◌++◌, Option, Some, None, is_some, IfSome, codes, bytes_eq, option_map, option_and_then}
 use Rattle.std.specs.Str.Parse.{digits_value}
 use Rattle.mw_isa.specs.declared.event.Event.{Event}

@@ -1,4 +1,4 @@
--- The sequential machine driven by events: each one acts on the state whose devices are brought to its cycle.
+-- The sequential machine driven by events: before one acts, the devices go on to its cycle.
 use Rattle.std.specs.Prelude.{ℕ, ◌==◌, Bool, true, false, not, ◌&&◌, if◌then◌else◌, List, [], ◌∷◌, Option, Some, None, is_some, map, option_map, option_and_then}
 use Rattle.mw_isa.specs.declared.event.Event.{Event}
 use Rattle.mw_isa.specs.declared.event.Event.TheVariants.{Retire, Trap, Irq}

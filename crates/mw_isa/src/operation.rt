@@ -146,7 +146,9 @@ static OPERATIONS: [Operation; 72] = [
     Operation::Storage(StorageRow { what: MemWhat::Zero, len: 64, address: Address::Block, update: false }), // dcbz
 ];
 
-/// What the row at a place of the instruction table does.
+/// What the row at a place of the instruction table does (Book I, fixed-point and branch instructions;
+/// Book II, atomic update and cache management). Places are counted from 0, in the table's order; an
+/// access's length is in bytes. It can't fail.
 #[tactic(auto, unfolding(crate::specs::Operations::operations))]
 pub fn operation_at(row: u16) -> Operation
     requires { row < row_count }

@@ -2,7 +2,7 @@
 use Rattle.std.specs.Prelude.{ℕ}
 use Rattle.mw_uart.specs.UartData.{UartData}
 
--- the UART, whose cycle is the one that all stand at; the decrementer as it was last written; and the cycle of that writing
+-- the UART, whose cycle is the one that all stand at; what the last write gave the decrementer; and when that was
 pub record DeviceData : Type 0 where
   pub uart : UartData
   pub dec : ℕ

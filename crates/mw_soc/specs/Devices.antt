@@ -16,11 +16,11 @@ cycle_of devices = devices.uart.cycle
 abbrev pub devices_at : DeviceData → ℕ → DeviceData
 devices_at devices cycle = record devices { uart = uart_at devices.uart cycle }
 
--- the decrementer: the value last written minus the cycles since, in 32 bits
+-- the decrementer, in 32 bits: one less each cycle from what the last write gave it (Book III, decrementer)
 abbrev pub dec_of : DeviceData → ℕ
 dec_of devices = (devices.dec + (2 ^ 32 - (cycle_of devices - devices.dec_at) % 2 ^ 32)) % 2 ^ 32
 
--- the decrementer's exception stands while its top bit is 1
+-- the decrementer's exception stands: its top bit is 1 (Book III, decrementer interrupt)
 abbrev pub dec_stands : DeviceData → Bool
 dec_stands devices = nat_le (2 ^ 31) (dec_of devices)
 

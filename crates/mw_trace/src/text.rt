@@ -10,7 +10,10 @@ use mw_bits::Bytes;
 use mw_isa::{End, Event, Span, State};
 use std::alloc::{AllocError as NoMemory, Global};
 
-/// The text of a run, with a dump of the last state's RAM where one is asked for.
+/// The text of a run: a line for each event, the end, the registers and the UART, and where one is
+/// asked for a dump of the last state's RAM. The dump's address and length are in bytes, and it ends in
+/// RAM. The cycles of the events and of the end are in clock ticks from 0 on. The only error is want of
+/// memory. The form of the text is this board's own.
 #[tactic(auto, unfolding(mw_isa::specs::Text::text_of))]
 pub fn print(
     alloc: Global,
