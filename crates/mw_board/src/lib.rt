@@ -10,6 +10,8 @@ pub use run::{Run, RunFault};
 pub use simulation::simulate;
 
 #[cfg(test)]
+mod device_tests;
+#[cfg(test)]
 mod storage_tests;
 #[cfg(test)]
 mod tests;

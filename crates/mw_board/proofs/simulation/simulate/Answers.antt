@@ -5,18 +5,16 @@ use Rattle.mw_board.proofs.RunLemmas.{made-init, made-next, made-end}
 use Rattle.mw_board.proofs.simulation.simulate.Goals as goal
 
 pub loop-cycle-init : goal.loop-cycle-init
-loop-cycle-init c =
-    (
-      made-init c.args.image.now c.args.n c.new-events.result c.new-3.result c.in-Ok.ram c.in-Ok-new.devices.devices c.new-events.ensures c.new-3.ensures c.in-Ok.ensures (ap (λ (h : Housed). h.devices) c.in-Ok-new.ensures),
-      ap (λ (h : Housed). h.room) c.in-Ok-new.ensures,
-    )
+loop-cycle-init c = (
+  made-init c.args.image.now c.args.n c.new-events.result c.new-3.result c.in-Ok.ram c.in-Ok-new.devices.devices c.new-events.ensures c.new-3.ensures c.in-Ok.ensures (ap (λ (h : Housed). h.devices) c.in-Ok-new.ensures),
+  ap (λ (h : Housed). h.room) c.in-Ok-new.ensures,
+)
 
 pub loop-cycle-preserved : goal.loop-cycle-preserved
-loop-cycle-preserved c =
-    (
-      made-next c.args.image.now c.args.n c.loop-cycle.events c.push.new.self c.loop-cycle.cycle c.in-Some.event (seen c.loop-cycle.state) (seen c.turn.new.state) c.advance.new.self.devices c.loop-cycle-test.true c.loop-cycle.invariant.0 (ap (λ (h : Housed). h.devices) c.advance.ensures) c.in-Some.ensures.turns c.in-Ok-push.ensures.ok,
-      c.in-Some.ensures.room ∙ ap (λ (h : Housed). h.room) c.advance.ensures ∙ c.loop-cycle.invariant.1,
-    )
+loop-cycle-preserved c = (
+  made-next c.args.image.now c.args.n c.loop-cycle.events c.push.new.self c.loop-cycle.cycle c.in-Some.event (seen c.loop-cycle.state) (seen c.turn.new.state) c.advance.new.self.devices c.loop-cycle-test.true c.loop-cycle.invariant.0 (ap (λ (h : Housed). h.devices) c.advance.ensures) c.in-Some.ensures.turns c.in-Ok-push.ensures.ok,
+  c.in-Some.ensures.room ∙ ap (λ (h : Housed). h.room) c.advance.ensures ∙ c.loop-cycle.invariant.1,
+)
 
 pub returns-clause-runs : goal.returns-clause-runs
 returns-clause-runs c =
