@@ -1,7 +1,6 @@
 -- How many bytes are sent by a cycle.
-use Rattle.std.proofs.Common.{List, subst, length-take-le, length-append, length-drop, [], ◌++◌, length, take, drop, take_all, append-nil, suc-mul, mul-le-mul_left, ◌≡◌, ℕ, zero, suc, ◌+◌, ◌-◌, ◌*◌, ◌/◌, ◌%◌, ◌^◌, ◌<◌, ◌≤◌, ◌⊎◌, inl, inr, ⊎_elim, ◌==◌, min, nat_lt, ltb, refl, sym, ap, ◌∙◌, arith, add-mul, mul-le-mul_right, div-add-mod', ltb-true, ltb-false}
+use Rattle.std.proofs.Common.{List, subst, length-take-le, length-append, length-drop, [], ◌++◌, length, take, drop, take_all, append-nil, suc-mul, mul-le-mul_left, ◌≡◌, ℕ, suc, ◌+◌, ◌-◌, ◌*◌, ◌/◌, ◌%◌, ◌<◌, ◌≤◌, ◌⊎◌, ⊎_elim, ◌==◌, min, nat_lt, refl, sym, ap, ◌∙◌, arith, mul-le-mul_right, div-add-mod', ltb-true, ltb-false}
 use Rattle.std.proofs.lemmas.Bool.{cases_lt, cases_order, cond_both, cond-true, cond-false, eq-eqb, ne_eqb}
-use Rattle.std.proofs.lemmas.Bool.Decides.{nat_tests}
 use Rattle.std.proofs.lemmas.Nat.{mod_below}
 use Rattle.mw_uart.specs.UartData.{UartData, Roomy, period_of}
 use Rattle.mw_uart.specs.UartAt.{arrived_by, arrivals, sent_by, next_due, uart_at}

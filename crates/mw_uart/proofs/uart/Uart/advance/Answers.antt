@@ -1,4 +1,4 @@
-use Rattle.std.proofs.Common.{rules, ◌≡◌, ℕ, ◌+◌, ◌*◌, ◌<◌, ◌≤◌, length, vec_capacity, arith, ap, ◌∙◌, drop, take, ◌++◌}
+use Rattle.std.proofs.Common.{rules, ◌≡◌, ◌<◌, ◌≤◌, length, vec_capacity, arith, ap, drop}
 use Rattle.std.proofs.lemmas.Grind.{common_steps}
 use Rattle.mw_uart.specs.UartData.{period_of}
 use Rattle.mw_uart.specs.UartAt.{sent_by, next_due}
