@@ -25,6 +25,7 @@ pub record IsTimed (sent waiting due cycle room : ℕ) : Type 0 where
   pub soon : due ≤ cycle + 10485760
   -- a cycle is in reach of the room
   pub within : cycle ≤ room * 160 + 159
+  -- the room is what `new` takes at most
   pub small : room ≤ 2 ^ 32
 
 -- of some waiting bytes this many are sent by a cycle: all, or else the next one isn't sent yet, and the last of them is
