@@ -1,13 +1,13 @@
 -- The laws of the UART at any cycle.
-use Rattle.std.proofs.Common.{◌≡◌, ℕ, zero, suc, ◌+◌, ◌-◌, ◌*◌, ◌%◌, ◌^◌, ◌<◌, ◌≤◌, ◌==◌, Bool, true, false, ◌||◌, cond, nat_lt, nat_le, leb, inl, inr, ⊎_elim, List, [], ◌∷◌, ◌++◌, length, map, take, drop, refl, sym, ap, ap₂, subst, zero-add, ◌∙◌, arith, append_assoc, take-add, drop-drop, length-drop, le-leb}
+use Rattle.std.proofs.Common.{◌≡◌, ℕ, zero, suc, ◌+◌, ◌-◌, ◌*◌, ◌%◌, ◌^◌, ◌<◌, ◌≤◌, ◌==◌, Bool, true, false, ◌||◌, cond, nat_lt, nat_le, ⊎_elim, List, [], ◌∷◌, ◌++◌, length, map, take, drop, refl, sym, ap, ap₂, subst, zero-add, ◌∙◌, arith, append_assoc, take-add, drop-drop, length-drop, le-leb}
 use Rattle.std.proofs.lemmas.List.{map-append}
 use Rattle.std.proofs.lemmas.Bool.{eqb-true, or_cases, cond_both, cases_lt, cond-true, cond-false, lt-leb}
 use Rattle.mw_uart.specs.UartData.{UartData, start_uart, period_of}
-use Rattle.mw_uart.specs.UartAt.{arrived_by, arrivals, sent_by, next_due, sent_of, uart_at}
+use Rattle.mw_uart.specs.UartAt.{arrived_by, sent_by, next_due, uart_at}
 use Rattle.mw_uart.specs.Registers.{after_load, after_store, with_number, with_tx}
 use Rattle.mw_bus.specs.Memory.{number_of}
 use Rattle.mw_uart.specs.Inside.{IsSent}
-use Rattle.mw_uart.proofs.SentLemmas.{is_sent, sent_once, due_later, due_none}
+use Rattle.mw_uart.proofs.SentLemmas.{same_parts, is_sent, sent_once, due_later, due_none}
 
 -- what is sent by a cycle and then by a later one is sent by the later one
 sent_then : (waiting due period cycle later m n : ℕ) → cycle ≤ later → IsSent waiting due period cycle m → IsSent (waiting - m) (next_due waiting due period m) period later n → IsSent waiting due period later (m + n)
@@ -125,14 +125,6 @@ output_then output sending m n k e =
 -- a list without a front and then another
 drop_then : {A : Type 0} (xs : List A) (m n k : ℕ) → m + n ≡ k → drop n (drop m xs) ≡ drop k xs
 drop_then xs m n k e = drop-drop n m xs ∙ ap (λ (q : ℕ). drop q xs) e
-
--- the data by its parts
-abbrev pub parts : ℕ → List (ℕ × ℕ) → List ℕ → List ℕ → ℕ → ℕ → ℕ → List ℕ → UartData
-parts cycle script received sending due div enable output = record { cycle = cycle; script = script; received = received; sending = sending; due = due; div = div; enable = enable; output = output }
-
--- alike in each part that a cycle changes
-same_parts : (cycle div enable : ℕ) (s t : List (ℕ × ℕ)) (r q w x o p : List ℕ) (d e : ℕ) → s ≡ t → r ≡ q → w ≡ x → d ≡ e → o ≡ p → parts cycle s r w d div enable o ≡ parts cycle t q x e div enable p
-same_parts cycle div enable s t r q w x o p d e a b f g h = rw (a, b, f, g, h) refl
 
 -- the UART brought to a cycle and then to a later one is the UART brought to the later one
 pub uart_at-then : (uart : UartData) (cycle later : ℕ) → cycle ≤ later → uart_at (uart_at uart cycle) later ≡ uart_at uart later

@@ -1,15 +1,10 @@
 -- How many bytes are sent by a cycle.
-use Rattle.std.proofs.Common.{List, subst, length-take-le, length-append, length-drop, [], ◌++◌, length, take, drop, take_all, append-nil, suc-mul, mul-le-mul_left, ◌≡◌, ℕ, zero, suc, ◌+◌, ◌-◌, ◌*◌, ◌/◌, ◌%◌, ◌^◌, ◌<◌, ◌≤◌, ◌⊎◌, inl, inr, ⊎_elim, ◌==◌, min, nat_lt, ltb, refl, sym, ap, ◌∙◌, arith, add-mul, mul-le-mul_right, div-add-mod', ltb-true, ltb-false}
+use Rattle.std.proofs.Common.{List, subst, length-take-le, length-append, length-drop, [], ◌++◌, length, take, drop, take_all, append-nil, suc-mul, mul-le-mul_left, ◌≡◌, ℕ, suc, ◌+◌, ◌-◌, ◌*◌, ◌/◌, ◌%◌, ◌<◌, ◌≤◌, ◌⊎◌, ⊎_elim, ◌==◌, min, nat_lt, refl, sym, ap, ◌∙◌, arith, mul-le-mul_right, div-add-mod', ltb-true, ltb-false}
 use Rattle.std.proofs.lemmas.Bool.{cases_lt, cases_order, cond_both, cond-true, cond-false, eq-eqb, ne_eqb}
-use Rattle.std.proofs.lemmas.Bool.Decides.{nat_tests}
 use Rattle.std.proofs.lemmas.Nat.{mod_below}
-use Rattle.mw_uart.specs.UartData.{UartData, Roomy, period_of}
+use Rattle.mw_uart.specs.UartData.{period_of}
 use Rattle.mw_uart.specs.UartAt.{arrived_by, arrivals, sent_by, next_due, uart_at}
-use Rattle.mw_uart.specs.Inside.{IsTimed, IsSent}
-
--- the UART's data with no byte to arrive
-abbrev pub data_of : ℕ → List ℕ → List ℕ → ℕ → ℕ → ℕ → List ℕ → UartData
-data_of cycle received sending due div enable output = record { cycle = cycle; script = []; received = received; sending = sending; due = due; div = div; enable = enable; output = output }
+use Rattle.mw_uart.specs.Inside.{parts, IsTimed, IsSent}
 
 -- a number of bytes below another takes a period less
 one_period : (m n period : ℕ) → m < n → m * period + period ≤ n * period
@@ -122,21 +117,19 @@ pub none_arrive : (cycle : ℕ) (received : List ℕ) → length received ≤ 16
 unfolding arrived_by
 none_arrive cycle received few = ap (take 16) (append-nil received) ∙ take_all 16 received few
 
--- the UART brought to a cycle, by its parts
-pub advanced : (cycle later due div enable n due_next : ℕ) (received sending output sending_next output_next : List ℕ) → length received ≤ 16 → n ≡ sent_by (length sending) due (period_of div) later → due_next ≡ next_due (length sending) due (period_of div) n → sending_next ≡ drop n sending → output_next ≡ output ++ take n sending → data_of later received sending_next due_next div enable output_next ≡ uart_at (data_of cycle received sending due div enable output) later
+-- alike in each part that a cycle changes
+pub same_parts : (cycle div enable : ℕ) (s t : List (ℕ × ℕ)) (r q w x o p : List ℕ) (d e : ℕ) → s ≡ t → r ≡ q → w ≡ x → d ≡ e → o ≡ p → parts cycle s r w d div enable o ≡ parts cycle t q x e div enable p
+same_parts cycle div enable s t r q w x o p d e a b f g h = rw (a, b, f, g, h) refl
+
+-- the UART with no byte to arrive brought to a cycle, by its parts
+pub advanced : (cycle later due div enable n due_next : ℕ) (received sending output sending_next output_next : List ℕ) → length received ≤ 16 → n ≡ sent_by (length sending) due (period_of div) later → due_next ≡ next_due (length sending) due (period_of div) n → sending_next ≡ drop n sending → output_next ≡ output ++ take n sending → parts later [] received sending_next due_next div enable output_next ≡ uart_at (parts cycle [] received sending due div enable output) later
 unfolding uart_at arrived_by
 advanced cycle later due div enable n due_next received sending output sending_next output_next few counts dues sends outputs =
-    let due_is : due_next ≡ next_due (length sending) due (period_of div) (sent_by (length sending) due (period_of div) later) = dues ∙ ap (next_due (length sending) due (period_of div)) counts in
-    let sent_is : sending_next ≡ drop (sent_by (length sending) due (period_of div) later) sending = sends ∙ ap (λ (k : ℕ). drop k sending) counts in
-    let output_is : output_next ≡ output ++ take (sent_by (length sending) due (period_of div) later) sending = outputs ∙ ap (λ (k : ℕ). output ++ take k sending) counts in
-    ap (λ (xs : List ℕ). data_of later xs sending_next due_next div enable output_next) (sym (none_arrive later received few))
-    ∙ ap (λ (xs : List ℕ). data_of later (take 16 (received ++ arrivals later [])) xs due_next div enable output_next) sent_is
-    ∙ ap (λ (k : ℕ). data_of later (take 16 (received ++ arrivals later [])) (drop (sent_by (length sending) due (period_of div) later) sending) k div enable output_next) due_is
-    ∙ ap (λ (xs : List ℕ). data_of later (take 16 (received ++ arrivals later [])) (drop (sent_by (length sending) due (period_of div) later) sending) (next_due (length sending) due (period_of div) (sent_by (length sending) due (period_of div) later)) div enable xs) output_is
-
--- the data with the room
-abbrev pub roomy : ℕ → UartData → Roomy
-roomy room uart = record { uart = uart; room = room }
+    same_parts later div enable [] [] received _ sending_next _ output_next _ due_next _ refl
+    (sym (none_arrive later received few))
+    (sends ∙ ap (λ (k : ℕ). drop k sending) counts)
+    (dues ∙ ap (next_due (length sending) due (period_of div)) counts)
+    (outputs ∙ ap (λ (k : ℕ). output ++ take k sending) counts)
 
 -- the room suffices
 pub room_enough : (sent waiting due cycle room later n div : ℕ) → IsTimed sent waiting due cycle room → cycle ≤ later → later / 160 ≤ room → div < 65536 → n ≡ sent_by waiting due (period_of div) later → sent + n ≤ room

@@ -1,6 +1,15 @@
--- What is true of the UART's parts at every time. Only proofs in this crate need it.
-use Rattle.std.specs.Prelude.{◌≡◌, ℕ, ◌+◌, ◌*◌, ◌^◌, ◌<◌, ◌≤◌, length}
+-- The UART's parts, and what is true of them at every time. Only this crate's proofs need it.
+use Rattle.std.specs.Prelude.{◌≡◌, ℕ, ◌+◌, ◌*◌, ◌^◌, ◌<◌, ◌≤◌, List, length}
 use Rattle.circular_buffer.specs.Buffer.{Buffer}
+use Rattle.mw_uart.specs.UartData.{UartData, Roomy}
+
+-- the data by its parts
+abbrev pub parts : ℕ → List (ℕ × ℕ) → List ℕ → List ℕ → ℕ → ℕ → ℕ → List ℕ → UartData
+parts cycle script received sending due div enable output = record { cycle = cycle; script = script; received = received; sending = sending; due = due; div = div; enable = enable; output = output }
+
+-- the data with the room
+abbrev pub roomy : ℕ → UartData → Roomy
+roomy room uart = record { uart = uart; room = room }
 
 -- a queue of at most 16 bytes
 abbrev pub IsQueue : Buffer ℕ → Type 0
@@ -16,6 +25,7 @@ pub record IsTimed (sent waiting due cycle room : ℕ) : Type 0 where
   pub soon : due ≤ cycle + 10485760
   -- a cycle is in reach of the room
   pub within : cycle ≤ room * 160 + 159
+  -- the room is what `new` takes at most
   pub small : room ≤ 2 ^ 32
 
 -- of some waiting bytes this many are sent by a cycle: all, or else the next one isn't sent yet, and the last of them is

@@ -1,15 +1,23 @@
 -- The UART as plain data (the device is this board's own).
 use Rattle.std.specs.Prelude.{ℕ, ◌+◌, ◌*◌, List, []}
 
--- the cycle that it stands at; the bytes that haven't arrived yet, each behind the cycle at which it arrives; the bytes that were received and are not read yet, and those that wait to be sent, the oldest first; the cycle at which the first of these is sent, or 0 where none waits; CLOCK_DIV; IRQ_EN; and all bytes sent
+-- the UART's data: all that it is at a cycle
 pub record UartData : Type 0 where
+  -- the cycle that it stands at
   pub cycle : ℕ
+  -- the bytes that haven't arrived yet, each behind the cycle at which it arrives
   pub script : List (ℕ × ℕ)
+  -- the bytes that were received and are not read yet, the oldest first
   pub received : List ℕ
+  -- the bytes that wait to be sent, the oldest first
   pub sending : List ℕ
+  -- the cycle at which the first of these is sent, or 0 where none waits
   pub due : ℕ
+  -- CLOCK_DIV
   pub div : ℕ
+  -- IRQ_EN: 1 for RX, 2 for TX
   pub enable : ℕ
+  -- all bytes sent
   pub output : List ℕ
 
 -- the UART and how many bytes of output it has memory for

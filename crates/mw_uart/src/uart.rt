@@ -55,7 +55,7 @@ fn sent_count(waiting: usize, due: u64, period: u64, cycle: u64) -> usize
     ensures count { result ≡ sent_by waiting due period cycle }
     ensures most { result ≤ waiting }
 {
-    if cycle < due {
+    if waiting == 0 || cycle < due {
         return 0;
     }
     let more = (cycle - due) / period;
@@ -90,6 +90,9 @@ fn transmit(sending: &mut HeapCircularBuffer<u8>, output: &mut Vec<u8>, count: u
     ensures output { output.new.items ≡ output.old.items ++ take count sending.old.items }
     ensures capacity { vec_capacity output.old ≤ vec_capacity output.new }
 {
+    if count == 0 {
+        return;
+    }
     let mut bytes = [0; PLACES];
     sending.read_into(&mut bytes[..count]);
     let Ok(()) = output.extend_from_slice(&bytes[..count]) else {

@@ -1,15 +1,15 @@
-use Rattle.std.proofs.Common.{rules, ◌≡◌, ℕ, ◌+◌, ◌*◌, ◌<◌, ◌≤◌, length, vec_capacity, arith, ap, ◌∙◌, drop, take, ◌++◌}
+use Rattle.std.proofs.Common.{rules, ◌≡◌, ◌<◌, ◌≤◌, length, vec_capacity, arith, ap, drop}
 use Rattle.std.proofs.lemmas.Grind.{common_steps}
 use Rattle.mw_uart.specs.UartData.{period_of}
 use Rattle.mw_uart.specs.UartAt.{sent_by, next_due}
-use Rattle.mw_uart.proofs.SentLemmas.{room_enough, timed_lists, advanced, roomy}
+use Rattle.mw_uart.proofs.SentLemmas.{room_enough, timed_lists, advanced}
+use Rattle.mw_uart.specs.Inside.{roomy}
 use Rattle.mw_uart.proofs.uart.Uart.advance.Goals as goal
 
 pub transmit-requires-clause-room : goal.transmit-requires-clause-room
 transmit-requires-clause-room c =
     let small : c.self.inside.div < 65536 = search rules in
     let after : c.self.inside.cycle ≤ c.args.cycle = search rules in
-    let fits = c.requires.room in
     let count : c.sent_count-count.result ≡ sent_by (length c.self.inside.sending.items) c.self.inside.due (period_of c.self.inside.div) c.args.cycle = search rules in
     let enough = room_enough (length c.self.inside.output.items) (length c.self.inside.sending.items) c.self.inside.due c.self.inside.cycle c.self.inside.room c.args.cycle c.sent_count-count.result c.self.inside.div c.self.invariant.4 after (search rules) small count in
     let room : c.self.inside.room ≤ vec_capacity c.self.inside.output = c.self.invariant.3 in
