@@ -1,11 +1,12 @@
 ghost use Rattle.std.specs.Prelude.{◌≡◌, ◌≤◌, ◌++◌, map, OnOk};
 ghost use Rattle.std.specs.List.{flat_map, enumerate_from};
 ghost use Rattle.mw_isa.specs.State.{seen};
-ghost use Rattle.mw_isa.specs.Text.{line, named, gpr_words, program_words, interrupt_words, software_words, special_words, uart_words, state_words};
+ghost use Rattle.mw_isa.specs.Text.{line, named, gpr_words, program_words, interrupt_words, software_words, special_words, sent_word, uart_words, state_words};
 
-use crate::words::{add_decimal, add_hex};
+use crate::words::{add_all_bytes, add_decimal, add_hex};
 use mw_bits::Bytes;
-use mw_isa::{Devices, Regs, State};
+use mw_isa::{Regs, State};
+use mw_soc::Devices;
 use std::alloc::AllocError as NoMemory;
 
 /// Appends the line of a register: its name and its content in so many digits.
@@ -72,7 +73,7 @@ fn add_program(text: &mut Bytes, regs: &Regs) -> Result<(), NoMemory>
 /// Appends the lines of the special registers from `srr0` to `pidr`.
 #[tactic(auto, unfolding(mw_isa::specs::Text::interrupt_words))]
 fn add_interrupt(text: &mut Bytes, regs: &Regs, devices: &Devices) -> Result<(), NoMemory>
-    ensures { OnOk result (text.new ≡ text.old ++ flat_map line (interrupt_words regs.now devices.now)) }
+    ensures { OnOk result (text.new ≡ text.old ++ flat_map line (interrupt_words regs.now devices.now.devices)) }
 {
     add_doubleword(text, b"srr0", regs.srr0)?;
     add_doubleword(text, b"srr1", regs.srr1)?;
@@ -100,19 +101,31 @@ fn add_software(text: &mut Bytes, regs: &Regs) -> Result<(), NoMemory>
 
 /// Appends the lines of the special registers.
 fn add_specials(text: &mut Bytes, regs: &Regs, devices: &Devices) -> Result<(), NoMemory>
-    ensures { OnOk result (text.new ≡ text.old ++ flat_map line (special_words regs.now devices.now)) }
+    ensures { OnOk result (text.new ≡ text.old ++ flat_map line (special_words regs.now devices.now.devices)) }
 {
     add_program(text, regs)?;
     add_interrupt(text, regs, devices)?;
     add_software(text, regs)
 }
 
-/// Appends the line of the UART, which has sent nothing.
-#[tactic(auto, unfolding(mw_isa::specs::Text::line))]
-fn add_uart(text: &mut Bytes) -> Result<(), NoMemory>
-    ensures { OnOk result (text.new ≡ text.old ++ line uart_words) }
+/// Appends the bytes that the UART sent, or a minus where there is none.
+fn add_sent(text: &mut Bytes, sent: &[u8]) -> Result<(), NoMemory>
+    ensures { OnOk result (text.new ≡ text.old ++ sent_word sent.now) }
 {
-    text.add(b"uart -\n")
+    match sent {
+        [] => text.add(b"-"),
+        [_, ..] => add_all_bytes(text, sent),
+    }
+}
+
+/// Appends the line of the UART.
+#[tactic(auto, unfolding(mw_isa::specs::Text::line))]
+fn add_uart(text: &mut Bytes, devices: &Devices) -> Result<(), NoMemory>
+    ensures { OnOk result (text.new ≡ text.old ++ line (uart_words devices.now.devices)) }
+{
+    text.add(b"uart ")?;
+    add_sent(text, devices.output())?;
+    text.add(b"\n")
 }
 
 /// Appends the lines of the registers and of the UART.
@@ -121,5 +134,5 @@ pub fn add_state(text: &mut Bytes, state: &State) -> Result<(), NoMemory>
 {
     add_gprs(text, &state.regs.gpr)?;
     add_specials(text, &state.regs, &state.devices)?;
-    add_uart(text)
+    add_uart(text, &state.devices)
 }

@@ -1,7 +1,15 @@
+ghost use Rattle.std.specs.Prelude.{◌≡◌, ◌+◌, ◌≤◌, length};
+
 use super::print;
 use mw_bus::Ram;
-use mw_isa::{Devices, End, Event, Regs, Span, State, Vector};
+use mw_isa::{End, Event, Regs, Span, State, Vector};
+use mw_soc::Devices;
+use std::alloc::{AllocError as NoMemory, Global};
+use std::process::Abort;
 use std::test::Fail;
+
+/// How many bytes of output the devices below have memory for.
+const ROOM: u64 = 64;
 
 /// The whole text of an empty run of no cycle.
 const START: &str = "\
@@ -123,6 +131,19 @@ prtbl 1000000000000115
 uart -
 ";
 
+/// The bytes that a UART is given at cycle 0, each of which takes 160 cycles, a cycle, and the last line of the text
+/// then.
+struct Sent(&'static [u8], u64, &'static str);
+
+#[rattlefmt::skip]
+static SENT: [Sent; 5] = [
+    Sent(&[], 4096, "\nuart -\n"),
+    Sent(&[0x41], 159, "\nuart -\n"),
+    Sent(&[0x41], 160, "\nuart 41\n"),
+    Sent(&[0x41, 0x42], 160, "\nuart 41\n"),
+    Sent(&[0x00, 0x0a, 0x20, 0xff], 640, "\nuart 000a20ff\n"),
+];
+
 /// The lines of an event of each kind.
 const EVENTS: &str = "\
 R 0 0000000000000000 38600005
@@ -169,13 +190,46 @@ m 0000000000fffffe 0000
 "),
 ];
 
+/// The state at cycle 0 with so much in RAM.
+fn start(alloc: Global, image: &[u8]) -> Result<State, NoMemory>
+    requires { length image.now ≤ 16777216 }
+{
+    Ok(State {
+        regs: Regs::new(),
+        ram: Ram::new(alloc, image)?,
+        devices: Devices::new(alloc, ROOM)?,
+    })
+}
+
+/// Brings the devices to a cycle.
+fn bring(rt: &impl Abort, devices: &mut Devices, cycle: u64)
+    requires { devices.old.room ≡ 64 }
+{
+    assert!(rt; devices.cycle() <= cycle && cycle / 160 <= ROOM);
+    devices.advance(cycle);
+}
+
+/// Devices at a cycle, whose UART was given bytes at cycle 0.
+fn given(rt: &impl Abort, alloc: Global, bytes: &[u8], cycle: u64) -> Result<Devices, NoMemory> {
+    let mut devices = Devices::new(alloc, ROOM)?;
+    for byte in bytes {
+        devices.store(0xC000_2000, &[*byte]);
+    }
+    bring(rt, &mut devices, cycle);
+    Ok(devices)
+}
+
+/// A stretch that ends in RAM.
+fn stretch(rt: &impl Abort, at: u32, len: u32) -> Span
+    ensures { result.at + result.len ≤ 16777216 }
+{
+    assert!(rt; at <= 16777216 && len <= 16777216 - at);
+    Span { at, len }
+}
+
 #[test]
 fn prints_the_start(rt: HostRuntime) -> Result<(), Fail> {
-    let state = State {
-        regs: Regs::new(),
-        ram: Ram::new(rt.alloc(), &[])?,
-        devices: Devices::new(),
-    };
+    let state = start(rt.alloc(), &[])?;
     let text = print(rt.alloc(), &[], &End::Ran { cycle: 0 }, &state, None)?;
     assert!(rt; text.as_slice() == START.as_bytes());
     Ok(())
@@ -183,8 +237,6 @@ fn prints_the_start(rt: HostRuntime) -> Result<(), Fail> {
 
 #[test]
 fn prints_each_register(rt: HostRuntime) -> Result<(), Fail> {
-    let mut devices = Devices::new();
-    devices.advance(4096);
     let state = State {
         regs: Regs {
             gpr: [
@@ -246,7 +298,7 @@ fn prints_each_register(rt: HostRuntime) -> Result<(), Fail> {
             reserve: None,
         },
         ram: Ram::new(rt.alloc(), &[])?,
-        devices,
+        devices: given(&rt, rt.alloc(), &[], 4096)?,
     };
     let text = print(rt.alloc(), &[], &End::Ran { cycle: 4096 }, &state, None)?;
     assert!(rt; text.as_slice() == FULL.as_bytes());
@@ -254,12 +306,22 @@ fn prints_each_register(rt: HostRuntime) -> Result<(), Fail> {
 }
 
 #[test]
+fn prints_what_the_uart_sent(rt: HostRuntime) -> Result<(), Fail> {
+    for Sent(bytes, cycle, last) in &SENT {
+        let state = State {
+            regs: Regs::new(),
+            ram: Ram::new(rt.alloc(), &[])?,
+            devices: given(&rt, rt.alloc(), bytes, *cycle)?,
+        };
+        let text = print(rt.alloc(), &[], &End::Ran { cycle: *cycle }, &state, None)?;
+        assert!(rt; text.as_slice().ends_with(last.as_bytes()), "at {cycle}");
+    }
+    Ok(())
+}
+
+#[test]
 fn prints_each_event(rt: HostRuntime) -> Result<(), Fail> {
-    let state = State {
-        regs: Regs::new(),
-        ram: Ram::new(rt.alloc(), &[])?,
-        devices: Devices::new(),
-    };
+    let state = start(rt.alloc(), &[])?;
     let events = [
         Event::Retire {
             cycle: 0,
@@ -302,14 +364,9 @@ fn prints_each_event(rt: HostRuntime) -> Result<(), Fail> {
 
 #[test]
 fn prints_dumps(rt: HostRuntime) -> Result<(), Fail> {
-    let state = State {
-        regs: Regs::new(),
-        ram: Ram::new(rt.alloc(), IMAGE)?,
-        devices: Devices::new(),
-    };
+    let state = start(rt.alloc(), IMAGE)?;
     for Dump(at, len, lines) in &DUMPS {
-        assert!(rt; *at <= 16777214 && *len <= 66 && *at + *len <= 16777216);
-        let span = Span { at: *at, len: *len };
+        let span = stretch(&rt, *at, *len);
         let text = print(rt.alloc(), &[], &End::Ran { cycle: 0 }, &state, Some(span))?;
         let (others, dump) = text
             .as_slice()
@@ -322,11 +379,7 @@ fn prints_dumps(rt: HostRuntime) -> Result<(), Fail> {
 
 #[test]
 fn prints_the_longest_dump(rt: HostRuntime) -> Result<(), Fail> {
-    let state = State {
-        regs: Regs::new(),
-        ram: Ram::new(rt.alloc(), &[])?,
-        devices: Devices::new(),
-    };
+    let state = start(rt.alloc(), &[])?;
     let span = Span {
         at: 16711680,
         len: 65536,

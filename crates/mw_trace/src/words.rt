@@ -75,6 +75,26 @@ pub fn add_hex_bytes(text: &mut Bytes, bytes: &[u8]) -> Result<(), NoMemory>
     text.add(&word[..=last])
 }
 
+/// Appends a byte in two hexadecimal digits.
+fn add_byte(text: &mut Bytes, byte: u8) -> Result<(), NoMemory>
+    ensures { OnOk result (text.new ≡ text.old ++ hex 2 byte) }
+{
+    let mut digits = [0; 2];
+    write_hex(&mut digits, u64::from(byte));
+    text.add(&digits)
+}
+
+/// Appends bytes in two hexadecimal digits each, however many they are.
+#[tactic(auto, unfolding(mw_isa::specs::Text::hex_bytes))]
+pub fn add_all_bytes(text: &mut Bytes, bytes: &[u8]) -> Result<(), NoMemory>
+    ensures { OnOk result (text.new ≡ text.old ++ hex_bytes bytes.now) }
+{
+    for byte in bytes {
+        add_byte(text, *byte)?;
+    }
+    Ok(())
+}
+
 /// Appends the number in decimal digits.
 pub fn add_decimal(text: &mut Bytes, number: u64) -> Result<(), NoMemory>
     ensures { OnOk result (text.new ≡ text.old ++ decimal number) }
