@@ -32,7 +32,7 @@ dar 0000000000000000
 dsisr 00000000
 ";
 
-/// The lines behind that of the decrementer.
+/// The lines between that of the decrementer and that of the UART.
 const BEHIND: &str = "\
 pidr 00000000
 sprg0 0000000000000000
@@ -42,8 +42,17 @@ sprg3 0000000000000000
 hsprg0 0000000000000000
 hsprg1 0000000000000000
 prtbl 0000000000000000
-uart -
 ";
+
+/// The digits of the register of a number: those given for it, or zeros.
+fn digits_of<'a>(set: &[(usize, &'a str)], number: usize) -> &'a str {
+    for (register, digits) in set {
+        if *register == number {
+            return *digits;
+        }
+    }
+    "0000000000000000"
+}
 
 /// Appends the lines from the end's on: the registers of a number that the board has, with the digits given here, and
 /// zeros in all others.
@@ -53,15 +62,11 @@ fn push_state(
     set: &[(usize, &str)],
     cia: &str,
     dec: &str,
+    uart: &str,
 ) -> Result<(), AllocError> {
     writeln!(text, "end ran {cycles}")?;
     for number in 0..32 {
-        let mut digits = "0000000000000000";
-        for (register, content) in set {
-            if *register == number {
-                digits = *content;
-            }
-        }
+        let digits = digits_of(set, number);
         writeln!(text, "r{number} {digits}")?;
     }
     text.push_str(BEFORE)?;
@@ -69,6 +74,7 @@ fn push_state(
     text.push_str(BETWEEN)?;
     writeln!(text, "dec {dec}")?;
     text.push_str(BEHIND)?;
+    writeln!(text, "uart {uart}")?;
     Ok(())
 }
 
@@ -88,7 +94,7 @@ fn text_of_loop(
             writeln!(text, "R {cycle} 0000000000000004 48000000")?;
         }
     }
-    push_state(&mut text, cycles, &[(3, r3)], cia, dec)?;
+    push_state(&mut text, cycles, &[(3, r3)], cia, dec, "-")?;
     Ok(text)
 }
 
@@ -154,7 +160,7 @@ R 4 0000000000000010 a8c30002
         (4, "ffffffffffffffff"),
         (5, "00000000ffffffff"),
     ];
-    push_state(&mut text, 60000, &set, "0000000000000014", "7fff159f")?;
+    push_state(&mut text, 60000, &set, "0000000000000014", "7fff159f", "-")?;
     text.push_str("m 0000000000000100 00000000ffffffffffffffff00000000\n")?;
     Ok(text)
 }
@@ -172,6 +178,56 @@ fn a_store_is_dumped(rt: HostRuntime) -> Result<(), Fail> {
     let text = text_of_storing(alloc)?;
     assert!(rt; out.as_slice() == text.as_bytes());
     assert_eq!(rt; err.as_slice(), b"".as_slice());
+    Ok(())
+}
+
+/// `ld r3,32(0)`, `addi r4,0,65`, `stb r4,0(r3)`, `b .`, zeros, and at 32 the address of the UART.
+const SENDING: &[u8] =
+    b"\x20\x00\x60\xe8\x41\x00\x80\x38\x00\x00\x83\x98\x00\x00\x00\x48\0\0\0\0\0\0\0\0\0\0\0\0\0\0\0\0\x00\x20\x00\xc0\0\0\0\0";
+
+/// The text of so many cycles of it, with the digits of the decrementer and what the UART sent.
+fn text_of_sending(
+    alloc: Global,
+    cycles: u64,
+    dec: &str,
+    uart: &str,
+) -> Result<String, AllocError> {
+    let mut text = String::new(alloc);
+    text.push_str(
+        "\
+R 0 0000000000000000 e8600020
+R 1 0000000000000004 38800041
+R 2 0000000000000008 98830000
+",
+    )?;
+    for cycle in 3..cycles {
+        writeln!(text, "R {cycle} 000000000000000c 48000000")?;
+    }
+    let set = [(3, "00000000c0002000"), (4, "0000000000000041")];
+    push_state(&mut text, cycles, &set, "000000000000000c", dec, uart)?;
+    Ok(text)
+}
+
+#[test]
+fn a_byte_is_sent(rt: HostRuntime) -> Result<(), Fail> {
+    let alloc = rt.alloc();
+    for (cycles, dec, uart) in [
+        (161, "7fffff5e", "-"),
+        (162, "7fffff5d", "41"),
+        (40000, "7fff63bf", "41"),
+    ] {
+        let mut host = SureHost::new(alloc);
+        host.put("img", SENDING)?;
+        let mut out = SureSink::new(alloc);
+        let mut err = SureSink::new(alloc);
+        let line = format!(in alloc; "run img --cycles {cycles}")?;
+        let words = words_of(alloc, line.as_str())?;
+        let status = mw_main(alloc, words.as_slice(), &mut host, &mut out, &mut err);
+        assert_eq!(rt; status, Status::Done, "{cycles}");
+        let text = text_of_sending(alloc, cycles, dec, uart)?;
+        assert!(rt; out.as_slice() == text.as_bytes(), "{cycles}");
+        assert_eq!(rt; err.as_slice(), b"".as_slice(), "{cycles}");
+    }
     Ok(())
 }
 
