@@ -1,11 +1,11 @@
 -- Numbers in RAM, as the code reads and writes them: in the front of eight bytes.
-use Rattle.std.proofs.Common.{◌≡◌, ℕ, ◌%◌, ◌^◌, ◌<◌, Bool, true, cond, List, length, take, sym, ap, ap₂, ◌∙◌, subst, arith, mod-lt}
+use Rattle.std.proofs.Common.{◌≡◌, ℕ, ◌%◌, ◌^◌, ◌<◌, Bool, true, cond, List, take, sym, ap, ap₂, ◌∙◌, subst, arith, mod-lt}
 use Rattle.std.proofs.Math.Nat.{one-le-pow}
 use Rattle.mw_soc.specs.DeviceData.{DeviceData}
 use Rattle.mw_soc.specs.Map.{device_loaded}
 use Rattle.mw_isa.specs.declared.memory.MemOp.{MemOp}
 use Rattle.mw_isa.specs.Access.{is_in_ram, real_byte, load_bytes}
-use Rattle.mw_bus.specs.Memory.{bytes_at, laid, number_of, bytes_of, padded}
+use Rattle.mw_bus.specs.Memory.{bytes_at, bytes_of, padded}
 use Rattle.mw_bus.proofs.StorageLemmas.{take-padded, length-bytes_at, length-bytes_of}
 
 -- bytes that were read from RAM

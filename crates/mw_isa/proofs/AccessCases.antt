@@ -1,5 +1,5 @@
 -- Accesses and deeds of single operations, computed.
-use Rattle.std.proofs.Common.{◌≡◌, ℕ, List, [], ◌∷◌, ◌^◌, ◌-◌, Bool, true, false, None, refl}
+use Rattle.std.proofs.Common.{◌≡◌, ℕ, [], ◌∷◌, ◌^◌, ◌-◌, false, None, refl}
 use Rattle.mw_isa.specs.declared.access.Kind.TheVariants.{Load as Loads, Store as Stores}
 use Rattle.mw_isa.specs.declared.access.Deed.TheVariants.{Store as StoreDeed}
 use Rattle.mw_isa.specs.declared.memory.MemWhat.{MemWhat}
