@@ -318,72 +318,58 @@ fn a_dump_is_in_its_bounds(rt: HostRuntime) -> Result<(), Fail> {
     Ok(())
 }
 
+/// Words, the image that they name, and what is answered and said.
+struct Refused(&'static str, &'static [u8], Status, &'static str);
+
+#[rattlefmt::skip]
+static REFUSED: [Refused; 25] = [
+    Refused("", LOOP, Status::Usage, "mw: usage\n"),
+    Refused("run", LOOP, Status::Usage, "mw: usage\n"),
+    Refused("run img", LOOP, Status::Usage, "mw: usage\n"),
+    Refused("run img --cycles", LOOP, Status::Usage, "mw: usage\n"),
+    Refused("run img --cycles 3 3", LOOP, Status::Usage, "mw: usage\n"),
+    Refused("run img --dump 0:8", LOOP, Status::Usage, "mw: usage\n"),
+    Refused("run img --dump 0:8 --cycles 3", LOOP, Status::Usage, "mw: usage\n"),
+    Refused("run img --cycles 03 --dump 0:8", LOOP, Status::Usage, "mw: usage\n"),
+    Refused("run img --cycles=3", LOOP, Status::Usage, "mw: usage\n"),
+    Refused("run img --cycle 3", LOOP, Status::Usage, "mw: usage\n"),
+    Refused("Run img --cycles 3", LOOP, Status::Usage, "mw: usage\n"),
+    Refused("run  --cycles 3", LOOP, Status::Usage, "mw: usage\n"),
+    Refused("run -img --cycles 3", LOOP, Status::Usage, "mw: usage\n"),
+    Refused("run img --cycles ", LOOP, Status::Usage, "mw: usage\n"),
+    Refused("run img --cycles 05", LOOP, Status::Usage, "mw: usage\n"),
+    Refused("run img --cycles 00", LOOP, Status::Usage, "mw: usage\n"),
+    Refused("run img --cycles +5", LOOP, Status::Usage, "mw: usage\n"),
+    Refused("run img --cycles -5", LOOP, Status::Usage, "mw: usage\n"),
+    Refused("run img --cycles 0x5", LOOP, Status::Usage, "mw: usage\n"),
+    Refused("run img --cycles 4000001", LOOP, Status::Usage, "mw: usage\n"),
+    Refused("run img --cycles 18446744073709551617", LOOP, Status::Usage, "mw: usage\n"),
+    Refused("run absent --cycles 3", LOOP, Status::ReadFault, "mw: cannot read absent\n"),
+    Refused("run img --cycles 5", CUT, Status::Unbuilt, "mw: unbuilt at 0000000000000000\n"),
+    Refused("run img --cycles 2", SINGLE, Status::Unbuilt, "mw: unbuilt at 0000000000000004\n"),
+    Refused("run img --cycles 1", b"", Status::Unbuilt, "mw: unbuilt at 0000000000000000\n"),
+];
+
 #[test]
 fn an_order_is_refused(rt: HostRuntime) -> Result<(), Fail> {
     let alloc = rt.alloc();
-    let usage = "mw: usage\n";
-    for (line, image, want, said) in [
-        ("", LOOP, Status::Usage, usage),
-        ("run", LOOP, Status::Usage, usage),
-        ("run img", LOOP, Status::Usage, usage),
-        ("run img --cycles", LOOP, Status::Usage, usage),
-        ("run img --cycles 3 3", LOOP, Status::Usage, usage),
-        ("run img --dump 0:8", LOOP, Status::Usage, usage),
-        ("run img --dump 0:8 --cycles 3", LOOP, Status::Usage, usage),
-        ("run img --cycles 03 --dump 0:8", LOOP, Status::Usage, usage),
-        ("run img --cycles=3", LOOP, Status::Usage, usage),
-        ("run img --cycle 3", LOOP, Status::Usage, usage),
-        ("Run img --cycles 3", LOOP, Status::Usage, usage),
-        ("run  --cycles 3", LOOP, Status::Usage, usage),
-        ("run -img --cycles 3", LOOP, Status::Usage, usage),
-        ("run img --cycles ", LOOP, Status::Usage, usage),
-        ("run img --cycles 05", LOOP, Status::Usage, usage),
-        ("run img --cycles 00", LOOP, Status::Usage, usage),
-        ("run img --cycles +5", LOOP, Status::Usage, usage),
-        ("run img --cycles -5", LOOP, Status::Usage, usage),
-        ("run img --cycles 0x5", LOOP, Status::Usage, usage),
-        ("run img --cycles 4000001", LOOP, Status::Usage, usage),
-        (
-            "run img --cycles 18446744073709551617",
-            LOOP,
-            Status::Usage,
-            usage,
-        ),
-        (
-            "run absent --cycles 3",
-            LOOP,
-            Status::ReadFault,
-            "mw: cannot read absent\n",
-        ),
-        (
-            "run img --cycles 5",
-            CUT,
-            Status::Unbuilt,
-            "mw: unbuilt at 0000000000000000\n",
-        ),
-        (
-            "run img --cycles 2",
-            SINGLE,
-            Status::Unbuilt,
-            "mw: unbuilt at 0000000000000004\n",
-        ),
-        (
-            "run img --cycles 1",
-            b"".as_slice(),
-            Status::Unbuilt,
-            "mw: unbuilt at 0000000000000000\n",
-        ),
-    ] {
+    for Refused(line, image, want, said) in &REFUSED {
         let mut host = MemHost::new(alloc);
-        host.put("img", image)?;
+        host.put("img", *image)?;
         let mut out = SureSink::new(alloc);
         let mut err = SureSink::new(alloc);
-        let words = words_of(alloc, line)?;
+        let words = words_of(alloc, *line)?;
         let status = mw_main(alloc, words.as_slice(), &mut host, &mut out, &mut err);
-        assert_eq!(rt; status, want, "{line}");
+        assert_eq!(rt; status, *want, "{line}");
         assert_eq!(rt; out.as_slice(), b"".as_slice(), "{line}");
         assert_eq!(rt; err.as_slice(), said.as_bytes(), "{line}");
     }
+    Ok(())
+}
+
+#[test]
+fn a_file_of_the_system_is_absent(rt: HostRuntime) -> Result<(), Fail> {
+    let alloc = rt.alloc();
     let mut host = RealHost::new(&rt);
     let mut out = SureSink::new(alloc);
     let mut err = SureSink::new(alloc);
