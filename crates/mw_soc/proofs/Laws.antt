@@ -1,12 +1,16 @@
 -- What a load and a store leave of the devices.
-use Rattle.std.proofs.Common.{◌≡◌, ℕ, ◌≤◌, Bool, true, false, List, cond, refl, ap, ◌∙◌, arith}
-use Rattle.mw_uart.specs.UartData.{Roomy}
+use Rattle.std.proofs.Common.{◌≡◌, ℕ, ◌≤◌, Bool, true, false, List, [], ◌∷◌, cond, refl, ap, ◌∙◌, arith}
+use Rattle.mw_uart.specs.UartData.{UartData, Roomy}
 use Rattle.mw_uart.specs.UartAt.{uart_at}
 use Rattle.mw_uart.specs.Registers.{after_load, after_store}
-use Rattle.mw_uart.proofs.Laws.{cycle-uart_at, cycle-after_load, cycle-after_store}
+use Rattle.mw_uart.proofs.Laws.{cycle-uart_at, cycle-after_load, cycle-after_store, uart_at-then, uart_at-rising, brought_by, Rises, last_of}
 use Rattle.mw_soc.specs.DeviceData.{DeviceData, Housed}
 use Rattle.mw_soc.specs.Devices.{cycle_of, devices_at}
 use Rattle.mw_soc.specs.Map.{is_uart, after_device_load, after_device_store}
+
+-- the devices with another UART
+abbrev with_uart : DeviceData → UartData → DeviceData
+with_uart devices uart = record devices { uart = uart }
 
 -- they stand at the cycle that they are brought to
 pub cycle-devices_at : (devices : DeviceData) (cycle : ℕ) → cycle_of (devices_at devices cycle) ≡ cycle
@@ -44,3 +48,22 @@ pub kept-store : (old new : Roomy) (offset dec_at : ℕ) (bytes : List ℕ) → 
 kept-store old new offset dec_at bytes e within =
     let n : new.uart.cycle ≡ old.uart.cycle = ap (λ (r : Roomy). r.uart.cycle) e ∙ cycle-after_store old.uart offset bytes in
     omega arith
+
+-- the devices brought to a cycle and then to a later one are the devices brought to the later one
+pub devices_at-then : (devices : DeviceData) (cycle later : ℕ) → cycle ≤ later → devices_at (devices_at devices cycle) later ≡ devices_at devices later
+devices_at-then devices cycle later after = ap (λ (u : UartData). with_uart devices u) (uart_at-then devices.uart cycle later after)
+
+-- the devices brought to one cycle after another
+abbrev pub devices_by : DeviceData → List ℕ → DeviceData
+devices_by devices [] = devices
+devices_by devices (cycle ∷ cycles) = devices_by (devices_at devices cycle) cycles
+
+-- only the UART goes with them
+devices_by-uart : (devices : DeviceData) (cycles : List ℕ) → devices_by devices cycles ≡ with_uart devices (brought_by devices.uart cycles)
+devices_by-uart devices [] = refl
+devices_by-uart devices (cycle ∷ cycles) = devices_by-uart (devices_at devices cycle) cycles
+
+-- the devices brought to rising cycles, one after another, are the devices brought to the last one
+pub devices_at-rising : (devices : DeviceData) (cycle : ℕ) (cycles : List ℕ) → Rises cycle cycles → devices_by devices (cycle ∷ cycles) ≡ devices_at devices (last_of cycle cycles)
+devices_at-rising devices cycle cycles r =
+    devices_by-uart devices (cycle ∷ cycles) ∙ ap (λ (u : UartData). with_uart devices u) (uart_at-rising devices.uart cycle cycles r)

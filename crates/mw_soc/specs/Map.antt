@@ -1,8 +1,7 @@
 -- The board's map outside RAM (this board's own).
 use Rattle.std.specs.Prelude.{ℕ, ◌-◌, ◌==◌, Bool, ◌&&◌, if◌then◌else◌, nat_lt, nat_le, List, replicate}
 use Rattle.std.specs.Int.{w64, to_le_bytes}
-use Rattle.mw_bus.specs.Memory.{padded}
-use Rattle.mw_uart.specs.Registers.{loaded, after_load, after_store}
+use Rattle.mw_uart.specs.Registers.{padded, loaded, after_load, after_store}
 use Rattle.mw_soc.specs.DeviceData.{DeviceData}
 
 -- the system controller stands at a real address

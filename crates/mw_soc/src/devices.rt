@@ -1,5 +1,5 @@
 ghost use Rattle.std.specs.Prelude.{◌≡◌, ◌+◌, ◌/◌, ◌%◌, ◌^◌, ◌≤◌, length, replicate, IfOk};
-ghost use Rattle.mw_bus.specs.Memory.{padded};
+ghost use Rattle.mw_uart.specs.Registers.{padded};
 ghost use Rattle.mw_soc.specs.Devices.{cycle_of, dec_of, dec_stands, devices_at, start_devices, with_dec};
 ghost use Rattle.mw_soc.specs.Map.{after_device_load, after_device_store, device_loaded, is_system, is_uart};
 

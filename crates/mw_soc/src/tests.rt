@@ -35,7 +35,7 @@ fn decrementer_counts_down(rt: HostRuntime) -> Result<(), Fail> {
 struct Load(u64, u8, [u8; 8]);
 
 #[rattlefmt::skip]
-static LOADS: [Load; 17] = [
+static LOADS: [Load; 18] = [
     Load(0xC000_0000, 8, [1, 0, 1, 0, 0x55, 0xAA, 0x0D, 0xF0]),
     Load(0xC000_0008, 8, [5, 0, 0, 0, 0, 0, 0, 0]),
     Load(0xC000_0010, 8, [0, 0, 0, 1, 0, 0, 0, 0]),
@@ -44,6 +44,7 @@ static LOADS: [Load; 17] = [
     Load(0xC000_0FF8, 8, [0; 8]),
     Load(0xC000_0000, 4, [0; 8]), // a width that isn't
     Load(0xC000_0004, 4, [0; 8]),
+    Load(0xC000_0020, 2, [0; 8]),
     Load(0xC000_0008, 1, [0; 8]),
     Load(0xC000_2010, 1, [3, 0, 0, 0, 0, 0, 0, 0]), // the UART's STATUS: both queues are empty
     Load(0xC000_2028, 8, [0; 8]),

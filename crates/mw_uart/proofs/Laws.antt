@@ -5,7 +5,7 @@ use Rattle.std.proofs.lemmas.Bool.{eqb-true, or_cases, cond_both, cases_lt, cond
 use Rattle.mw_uart.specs.UartData.{UartData, start_uart, period_of}
 use Rattle.mw_uart.specs.UartAt.{arrived_by, sent_by, next_due, uart_at}
 use Rattle.mw_uart.specs.Registers.{after_load, after_store, with_number, with_tx}
-use Rattle.mw_bus.specs.Memory.{number_of}
+use Rattle.byteorder.specs.Endian.{little_number}
 use Rattle.mw_uart.specs.Inside.{IsSent}
 use Rattle.mw_uart.proofs.SentLemmas.{same_parts, is_sent, sent_once, due_later, due_none}
 
@@ -174,7 +174,7 @@ cycle-with_tx uart byte = cond_both (nat_lt (length uart.sending) 16) _ _ (λ (u
 pub cycle-after_store : (uart : UartData) (offset : ℕ) (bytes : List ℕ) → (after_store uart offset bytes).cycle ≡ uart.cycle
 unfolding after_store with_number
 cycle-after_store uart offset bytes =
-    cond_both (offset == 0) _ _ (λ (u : UartData). u.cycle ≡ uart.cycle) (λ _. cycle-with_tx uart (number_of false (length bytes) bytes % 2 ^ 8))
+    cond_both (offset == 0) _ _ (λ (u : UartData). u.cycle ≡ uart.cycle) (λ _. cycle-with_tx uart (little_number (length bytes) bytes % 2 ^ 8))
     (λ _. cond_both (offset == 0x18) _ _ (λ (u : UartData). u.cycle ≡ uart.cycle) (λ _. refl)
     (λ _. cond_both (offset == 0x20) _ _ (λ (u : UartData). u.cycle ≡ uart.cycle) (λ _. refl) (λ _. refl)))
 
@@ -200,10 +200,37 @@ in_one_slot offset width sized aligned =
 
 -- a byte that is stored at cycle 2 with CLOCK_DIV 0 isn't sent at cycle 161
 pub not_sent_at_161 : (uart_at (after_store (uart_at (start_uart []) 2) 0 (65 ∷ [])) 161).output ≡ []
-unfolding uart_at after_store with_number with_tx number_of sent_by next_due arrived_by
+unfolding uart_at after_store with_number with_tx sent_by next_due arrived_by
 not_sent_at_161 = refl
 
 -- and it is at cycle 162
 pub sent_at_162 : (uart_at (after_store (uart_at (start_uart []) 2) 0 (65 ∷ [])) 162).output ≡ 65 ∷ []
-unfolding uart_at after_store with_number with_tx number_of sent_by next_due arrived_by
+unfolding uart_at after_store with_number with_tx sent_by next_due arrived_by
 sent_at_162 = refl
+
+-- the UART brought to one cycle after another
+abbrev pub brought_by : UartData → List ℕ → UartData
+brought_by uart [] = uart
+brought_by uart (cycle ∷ cycles) = brought_by (uart_at uart cycle) cycles
+
+-- none of the cycles is before the one in front of it
+abbrev pub Rises : ℕ → List ℕ → Type 0
+Rises cycle [] = Unit {0}
+Rises cycle (next ∷ cycles) = (cycle ≤ next) × Rises next cycles
+
+-- the last of the cycles
+abbrev pub last_of : ℕ → List ℕ → ℕ
+last_of cycle [] = cycle
+last_of cycle (next ∷ cycles) = last_of next cycles
+
+-- it isn't before the first
+first-last : (cycle : ℕ) (cycles : List ℕ) → Rises cycle cycles → cycle ≤ last_of cycle cycles
+first-last cycle [] r = omega arith
+first-last cycle (next ∷ cycles) r = let here = r.0 in let rest = first-last next cycles r.1 in omega arith
+
+-- the UART brought to rising cycles, one after another, is the UART brought to the last one
+pub uart_at-rising : (uart : UartData) (cycle : ℕ) (cycles : List ℕ) → Rises cycle cycles → brought_by uart (cycle ∷ cycles) ≡ uart_at uart (last_of cycle cycles)
+uart_at-rising uart cycle [] r = refl
+uart_at-rising uart cycle (next ∷ cycles) r =
+    let later = first-last next cycles r.1 in
+    uart_at-rising (uart_at uart cycle) next cycles r.1 ∙ uart_at-then uart cycle (last_of next cycles) (let here = r.0 in omega arith)

@@ -1,8 +1,12 @@
 -- The UART's registers: five slots of 8 bytes, little-endian, TX at 0, RX at 8, STATUS at 0x10, CLOCK_DIV at 0x18 and IRQ_EN at 0x20.
-use Rattle.std.specs.Prelude.{ℕ, ◌+◌, ◌/◌, ◌%◌, ◌^◌, ◌==◌, Bool, false, not, ◌&&◌, ◌||◌, if◌then◌else◌, nat_lt, List, [], ◌∷◌, ◌++◌, length, take, drop, slice_index}
+use Rattle.std.specs.Prelude.{ℕ, ◌+◌, ◌-◌, ◌/◌, ◌%◌, ◌^◌, ◌==◌, Bool, not, ◌&&◌, ◌||◌, if◌then◌else◌, nat_lt, List, [], ◌∷◌, ◌++◌, length, replicate, take, drop, slice_index}
 use Rattle.std.specs.Int.{w64, to_le_bytes}
-use Rattle.mw_bus.specs.Memory.{number_of, padded}
+use Rattle.byteorder.specs.Endian.{little_number}
 use Rattle.mw_uart.specs.UartData.{UartData, period_of}
+
+-- an access's bytes with zeros behind them up to 8
+abbrev pub padded : List ℕ → List ℕ
+padded bytes = bytes ++ replicate (8 - length bytes) 0
 
 -- a bit of STATUS
 abbrev pub flag : Bool → ℕ → ℕ
@@ -51,7 +55,7 @@ with_number uart offset number =
 
 -- the UART after a store of bytes, which are a little-endian number
 unfoldable pub after_store : UartData → ℕ → List ℕ → UartData
-after_store uart offset bytes = with_number uart offset (number_of false (length bytes) bytes)
+after_store uart offset bytes = with_number uart offset (little_number (length bytes) bytes)
 
 -- the interrupt line: RX enabled (1) and received bytes wait, or TX enabled (2) and none waits to be sent
 unfoldable pub line_of : UartData → Bool

@@ -60,9 +60,12 @@ fn seventeen_bytes_keep_sixteen(rt: HostRuntime) -> Result<(), Fail> {
     }
     assert_eq!(rt; uart.load(0x10, 1), [9, 0, 0, 0, 0, 0, 0, 0]);
     assert_eq!(rt; uart.output().len(), 0);
-    bring(&rt, &mut uart, 16 * 160);
     let first = [1, 2, 3, 4, 5, 6, 7, 8, 9, 10, 11, 12, 13, 14, 15, 16];
+    bring(&rt, &mut uart, 16 * 160);
     assert_eq!(rt; uart.output(), first.as_slice());
+    bring(&rt, &mut uart, 17 * 160);
+    assert_eq!(rt; uart.output(), first.as_slice());
+    assert_eq!(rt; uart.load(0x10, 1), [3, 0, 0, 0, 0, 0, 0, 0]);
     Ok(())
 }
 

@@ -1,12 +1,11 @@
 ghost use Rattle.std.specs.Prelude.{◌≡◌, ℕ, ◌+◌, ◌*◌, ◌/◌, ◌%◌, ◌^◌, ◌<◌, ◌≤◌, [], ◌++◌, length, take, drop, slice_index, if◌then◌else◌, IfOk, vec_len, vec_capacity};
 ghost use Rattle.std.specs.Int.{w64, to_le_bytes};
-ghost use Rattle.mw_bus.specs.Memory.{padded};
 ghost use Rattle.mw_uart.specs.UartData.{start_uart, period_of};
 ghost use Rattle.mw_uart.specs.UartAt.{uart_at, sent_by, next_due};
-ghost use Rattle.mw_uart.specs.Registers.{status_of, slot_of, loaded, after_load, with_tx, with_number, after_store, line_of};
+ghost use Rattle.mw_uart.specs.Registers.{padded, status_of, slot_of, loaded, after_load, with_tx, with_number, after_store, line_of};
 
+use byteorder::{ByteOrder, LittleEndian};
 use circular_buffer::HeapCircularBuffer;
-use mw_bus::number;
 use std::alloc::{AllocError as NoMemory, Global};
 use std::marker::Model;
 
@@ -252,7 +251,7 @@ impl Uart {
         requires one_slot { offset % 8 + length bytes.now ≤ 8 }
         ensures { self.new ≡ record self.old { uart = after_store self.old.uart offset bytes.now } }
     {
-        self.put(offset, number(false, bytes));
+        self.put(offset, LittleEndian::read_uint(bytes, bytes.len()));
     }
 
     /// All bytes sent.
@@ -269,8 +268,8 @@ impl Uart {
         self.cycle
     }
 
-    /// Whether the interrupt line is on: RX is enabled and received bytes wait, or TX is enabled and
-    /// none waits to be sent.
+    /// Whether the interrupt line is on: for RX, where enabled, while there are received bytes; for TX,
+    /// where enabled, while none is to be sent.
     #[tactic(auto, unfolding(crate::specs::Registers::line_of))]
     pub fn line(&self) -> bool
         ensures { result ≡ line_of self.now.uart }
