@@ -1,11 +1,16 @@
-//! Bit fields by the Power ISA's bit numbers, and a list of bytes that grows.
+//! Bit fields, masks and rotations by the Power ISA's bit numbers, what a translation permits and what an
+//! invalidation reaches, and a list of bytes that grows.
 #![tactic(auto)]
 
 mod bytes;
 mod fields;
+mod rights;
+mod scope;
 
 pub use bytes::Bytes;
-pub use fields::{field, sext};
+pub use fields::{exts34, field, mask, rotl, sext};
+pub use rights::Rights;
+pub use scope::Scope;
 
 #[cfg(test)]
 mod tests {
@@ -58,6 +63,45 @@ mod tests {
             assert!(rt; 1 <= *width && *width <= 64);
             assert_eq!(rt; sext(*x, *width), *want, "{x:x} of {width} bits");
         }
+    }
+
+    /// The first and the last bit of a mask, and the mask.
+    struct Ones(u32, u32, u64);
+
+    #[rattlefmt::skip]
+    static MASKS: [Ones; 6] = [
+        Ones(0, 63, 0xffff_ffff_ffff_ffff),
+        Ones(32, 63, 0xffff_ffff),
+        Ones(0, 0, 0x8000_0000_0000_0000),
+        Ones(60, 62, 0xe),
+        Ones(60, 3, 0xf000_0000_0000_000f),
+        Ones(32, 31, 0xffff_ffff_ffff_ffff),
+    ];
+
+    /// A number, a count of places, and the number rotated to the left by them.
+    struct Turn(u64, u32, u64);
+
+    #[rattlefmt::skip]
+    static TURNS: [Turn; 4] = [
+        Turn(0x1234_5678_9abc_def0, 0, 0x1234_5678_9abc_def0),
+        Turn(0x1234_5678_9abc_def0, 4, 0x2345_6789_abcd_ef01),
+        Turn(0x8000_0000_0000_0001, 1, 3),
+        Turn(0x8000_0000_0000_0001, 63, 0xc000_0000_0000_0000),
+    ];
+
+    #[test]
+    fn masks_and_rotations_are_counted_from_the_left(rt: HostRuntime) {
+        for Ones(mb, me, want) in &MASKS {
+            assert!(rt; *mb <= 63 && *me <= 63);
+            assert_eq!(rt; mask(*mb, *me), *want, "from {mb} to {me}");
+        }
+        for Turn(x, n, want) in &TURNS {
+            assert!(rt; *n <= 63);
+            assert_eq!(rt; rotl(*x, *n), *want, "{x:x} by {n}");
+        }
+        assert_eq!(rt; exts34(0x2_0000, 0), 0xffff_fffe_0000_0000);
+        assert_eq!(rt; exts34(0x1_ffff, 0xfffe), 0x1_ffff_fffe);
+        assert_eq!(rt; exts34(0x3_ffff, 0xfffc), 0xffff_ffff_ffff_fffc);
     }
 
     #[test]

@@ -1,0 +1,15 @@
+/// What a page may be used for, and whether a store into it still has to set its change bit (Book III,
+/// radix page table entry).
+#[derive(Clone, Copy, Debug, PartialEq, Eq)]
+pub struct Rights {
+    /// Whether only privileged states may use it.
+    pub privileged: bool,
+    /// Whether it may be loaded from.
+    pub read: bool,
+    /// Whether it may be loaded from and stored into.
+    pub write: bool,
+    /// Whether instructions may be fetched from it.
+    pub execute: bool,
+    /// Whether its change bit is set.
+    pub changed: bool,
+}
