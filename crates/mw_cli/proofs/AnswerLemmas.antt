@@ -17,7 +17,7 @@ use Rattle.mw_cli.specs.Outside.{Reading, IsImage, TookUnlessFault}
 use Rattle.mw_cli.specs.Answers.{Call, Says, Answers, Asks, Printed, HasCause, Refused, line_of, IsTooLong, StopsAt, ReachesUnbuilt}
 
 -- what some value has is what the one value has
-at_some : {A : Type 0} (o : Option A) (P : A → Type 0) (x : A) → o ≡ Some x → IsSomeAnd o P → P x
+pub at_some : {A : Type 0} (o : Option A) (P : A → Type 0) (x : A) → o ≡ Some x → IsSomeAnd o P → P x
 at_some o P x e h = subst (λ (v : Option _). IsSomeAnd v P) e h
 
 -- there is some value, so there isn't none

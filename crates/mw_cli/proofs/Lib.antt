@@ -3,3 +3,4 @@ pub mod WritingLemmas
 pub mod RunLemmas
 pub mod CauseLemmas
 pub mod AnswerLemmas
+pub mod ConstantStatus

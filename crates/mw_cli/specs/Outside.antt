@@ -23,7 +23,7 @@ pub record Writing : Type 0 where
 abbrev pub IsImage : Reading → Order → List ℕ → Type 0
 IsImage host order image = IfSome host.files (λ told. image ≡ content_of told order.image)
 
--- where a file is open, this is what is left of the one of this name: no more was read of it than a byte past RAM's size
+-- where a file is open, this is what is left of the one of this name: all behind at most its first 16,777,217 bytes
 abbrev pub StopsReading : Option (List ℕ → Option (List ℕ)) → Bool → List ℕ → List ℕ → Type 0
 StopsReading files opened rest name = IsTrue opened → IfSome files (λ told. IsReadOn 16777217 (content_of told name) rest)
 

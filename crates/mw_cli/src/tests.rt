@@ -1,5 +1,7 @@
 use crate::{Status, mw_main};
+use mw_board::simulate;
 use mw_io::{MemHost, MemSink, RealHost, SureHost, SureSink};
+use mw_trace::print;
 use std::alloc::{AllocError, Global};
 use std::test::Fail;
 
@@ -132,6 +134,26 @@ fn a_run_is_printed_whole(rt: HostRuntime) -> Result<(), Fail> {
         let text = text_of_loop(alloc, cycles, r3, cia, dec)?;
         assert!(rt; out.as_slice() == text.as_bytes(), "{cycles}");
         assert_eq!(rt; err.as_slice(), b"".as_slice(), "{cycles}");
+    }
+    Ok(())
+}
+
+#[test]
+fn what_is_written_is_what_is_simulated(rt: HostRuntime) -> Result<(), Fail> {
+    let alloc = rt.alloc();
+    let mut host = SureHost::new(alloc);
+    host.put("img", LOOP)?;
+    let mut out = SureSink::new(alloc);
+    let mut err = SureSink::new(alloc);
+    let words = words_of(alloc, "run img --cycles 20000")?;
+    let status = mw_main(alloc, words.as_slice(), &mut host, &mut out, &mut err);
+    assert_eq!(rt; status, Status::Done);
+    match simulate(alloc, LOOP, 20000) {
+        Ok(run) => {
+            let text = print(alloc, run.events.as_slice(), &run.end, &run.state, None)?;
+            assert!(rt; out.as_slice() == text.as_slice());
+        }
+        Err(fault) => panic!(rt; "{fault:?}"),
     }
     Ok(())
 }
