@@ -1,0 +1,12 @@
+//! The table of instructions: each row with its name, its fixed bits and where its operands stand.
+#![tactic(auto)]
+
+mod fields;
+mod layout;
+mod row;
+mod table;
+
+pub use fields::fields_of_layout;
+pub use layout::{Field, Layout, Piece};
+pub use row::{PrefixKind, Row, Shape};
+pub use table::{layout_at, row_at, rows};
