@@ -4,7 +4,8 @@ use Rattle.std.specs.List.{position_from}
 use Rattle.mw_tables.specs.declared.row.PrefixKind.{PrefixKind}
 use Rattle.mw_tables.specs.declared.row.PrefixKind.TheVariants.{Plain, Mls, Eight, Nop}
 use Rattle.mw_tables.specs.Row.{TableRow}
-use Rattle.mw_tables.specs.Rows.{table}
+use Rattle.mw_tables.specs.Layouts.{shape_of}
+use Rattle.mw_tables.specs.Rows.{table, layouts}
 
 -- a number for each kind of prefix
 abbrev pub kind_number : PrefixKind → ℕ
@@ -36,6 +37,10 @@ IsNamedAt rows name place = IsSomeAnd (slice_get rows place) (λ row. row.name �
 -- no two rows have one name
 abbrev pub AreNamed : List TableRow → Type 0
 AreNamed rows = (name : List ℕ) (a b : ℕ) → IsNamedAt rows name a → IsNamedAt rows name b → a ≡ b
+
+-- the operand list of each row is the one that its layout lays out
+abbrev pub AreLaidOut : List TableRow → Type 0
+AreLaidOut rows = map (λ (row : TableRow). row.shape) rows ≡ map shape_of layouts
 
 -- the place in the table of the row that matches
 unfoldable pub row_place : PrefixKind → ℕ → Option ℕ

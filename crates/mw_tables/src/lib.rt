@@ -9,4 +9,4 @@ mod table;
 pub use fields::fields_of_layout;
 pub use layout::{Field, Layout, Piece};
 pub use row::{PrefixKind, Row, Shape};
-pub use table::{layout_at, row_at, rows};
+pub use table::{by_name, layout_at, row_at, rows};

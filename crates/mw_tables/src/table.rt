@@ -1,7 +1,7 @@
-ghost use Rattle.std.specs.Prelude.{◌≡◌, ◌<◌, Some, length, map, slice_get};
+ghost use Rattle.std.specs.Prelude.{ℕ, ◌≡◌, ◌<◌, Some, IfSome, IfNone, length, map, slice_get};
 ghost use Rattle.mw_tables.specs.Row.{row_of};
 ghost use Rattle.mw_tables.specs.Rows.{table, layouts, row_count};
-ghost use Rattle.mw_tables.specs.Matching.{AreApart, AreNamed};
+ghost use Rattle.mw_tables.specs.Matching.{AreApart, AreNamed, AreLaidOut, IsNamedAt};
 
 use crate::layout::Layout;
 use crate::row::{PrefixKind, Row, Shape};
@@ -111,6 +111,9 @@ macro_rules! prefixed {
         }
     };
 }
+
+/// How many rows there are.
+const ROW_COUNT: u16 = 224;
 
 /// The rows, one a line, in the order of the definitions.
 #[rattlefmt::skip]
@@ -578,6 +581,7 @@ pub fn rows() -> &'static [Row]
     ensures count { length result.now ≡ row_count }
     ensures apart { AreApart (map row_of result.now) }
     ensures named { AreNamed (map row_of result.now) }
+    ensures laid_out { AreLaidOut (map row_of result.now) }
 {
     &ROWS
 }
@@ -588,6 +592,21 @@ pub fn row_at(place: u16) -> &'static Row
     ensures { slice_get table place ≡ Some (row_of result.now) }
 {
     &rows()[place as usize]
+}
+
+/// The place of the row with a name, in lower case and without its forms' letters; `None` where no row
+/// has it.
+pub fn by_name(name: &str) -> Option<u16>
+    ensures found { IfSome result (IsNamedAt table name.now) }
+    ensures within { IfSome result (λ place. place < row_count) }
+    ensures none { IfNone result ((place : ℕ) → IsNamedAt table name.now place → ⊥) }
+{
+    for place in 0..ROW_COUNT {
+        if row_at(place).name == name {
+            return Some(place);
+        }
+    }
+    None
 }
 
 /// The layouts of all rows.
