@@ -1,6 +1,6 @@
 -- The place of the row that matches a word, or has a name: no word matches two rows of one kind of prefix, and no two rows have one name.
-use Rattle.std.proofs.Common.{◌≡◌, ℕ, zero, suc, ◌+◌, ◌*◌, ◌<◌, ◌≤◌, length, slice_get, map, subst, Bool, true, false, not, ◌&&◌, cond, List, [], ◌∷◌, Option, Some, None, refl, sym, ap, ◌∙◌, arith, add-zero, bit_and}
-use Rattle.std.specs.Prelude.{◌==◌, IsSomeAnd, IsTrue, option_map}
+use Rattle.std.proofs.Common.{◌≡◌, ℕ, zero, suc, ◌+◌, ◌*◌, ◌<◌, length, slice_get, subst, Bool, true, false, not, ◌&&◌, cond, List, [], ◌∷◌, Option, Some, None, refl, sym, ap, ◌∙◌, arith, add-zero, bit_and}
+use Rattle.std.specs.Prelude.{◌==◌, IfSome, IfNone, IsSomeAnd, IsTrue, option_map}
 use Rattle.std.specs.List.{position_from}
 use Rattle.std.proofs.lemmas.Nat.{and_assoc, and_comm}
 use Rattle.std.proofs.lemmas.Bool.{eqb-true, eq-eqb, and_parts, not-true, both_ways, false_from_ne_true, cond-true, cond-false}
@@ -107,7 +107,7 @@ row_place-from_row kind word place row there m = row_place-from_place kind word 
 pub row-MatchesAt : (kind : PrefixKind) (word place : ℕ) (row : TableRow) → slice_get table place ≡ Some row → MatchesAt table kind word place → matches kind word row ≡ true
 row-MatchesAt kind word place row there found = subst (λ o. IsSomeAnd o (λ r. IsTrue (matches kind word r))) there found
 
--- where one property holds of an option's value, and the option has a value, it holds of that value
+-- a place with an item of which something holds is in the list
 is_at : {T : Type 0} (o : Option T) (P : T → Type 0) → IsSomeAnd o P → (n : ℕ) (xs : List T) → slice_get xs n ≡ o → n < length xs
 is_at None P there n xs e = absurd there
 is_at (Some x) P there n xs e = slice_get_within xs n x e
@@ -118,11 +118,11 @@ MatchesAt-below kind word place there =
     let within : place < length table = is_at (slice_get table place) _ there place table refl in
     omega (arith, table_count)
 
--- some place matches, counted from a first one
+-- the row at a place matches, where the first row's place is this one
 abbrev Stands : List TableRow → ℕ → PrefixKind → ℕ → ℕ → Type 0
 Stands rows from kind word place = (k : ℕ) × (from + k ≡ place) × MatchesAt rows kind word k
 
--- it is the first row, or one of the rest
+-- the first row that matches is the head, or one of the rest
 stands-next : (row : TableRow) (rows : List TableRow) (from : ℕ) (kind : PrefixKind) (word place : ℕ) (first : Bool) (rest : Option ℕ) → matches kind word row ≡ first → (rest ≡ Some place → Stands rows (from + 1) kind word place) → cond first (Some from) rest ≡ Some place → Stands (row ∷ rows) from kind word place
 stands-next row rows from kind word place true rest m later e = (zero, add-zero from ∙ same_Some _ _ e, m)
 stands-next row rows from kind word place false rest m later e =
@@ -215,3 +215,8 @@ IsNamedAt-row place row there = subst (λ o. IsSomeAnd o (λ r. r.name ≡ row.n
 -- at a place where a row is, it is the row that has the name
 pub row-IsNamedAt : (name : List ℕ) (place : ℕ) (row : TableRow) → slice_get table place ≡ Some row → IsNamedAt table name place → row.name ≡ name
 row-IsNamedAt name place row there found = subst (λ o. IsSomeAnd o (λ r. r.name ≡ name)) there found
+
+-- what says where a name is, or that it is nowhere, says the place of a row that has it
+pub place-from_name : (name : List ℕ) (place : ℕ) (found : Option ℕ) → IfSome found (IsNamedAt table name) → IfNone found ((k : ℕ) → IsNamedAt table name k → ⊥) → IsNamedAt table name place → found ≡ Some place
+place-from_name name place None some none there = absurd (none place there)
+place-from_name name place (Some k) some none there = ap Some (table-AreNamed name k place some there)

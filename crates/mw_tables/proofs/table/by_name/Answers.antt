@@ -1,5 +1,5 @@
-use Rattle.std.proofs.Common.{ℕ, ◌<◌, arith}
-use Rattle.mw_tables.specs.Rows.{table, row_count}
+use Rattle.std.proofs.Common.{◌<◌, arith}
+use Rattle.mw_tables.specs.Rows.{row_count}
 use Rattle.mw_tables.proofs.Places.{IsNamedAt-below}
 use Rattle.mw_tables.proofs.table.by_name.Goals as goal
 
