@@ -1,0 +1,4 @@
+pub mod PieceLaws
+pub mod FieldLaws
+pub mod OperandLaws
+mod CodeLemmas
