@@ -13,7 +13,7 @@ use Rattle.mw_tables.specs.declared.layout.Piece.{Piece}
 use Rattle.mw_tables.specs.declared.layout.Field.{Field}
 use Rattle.mw_tables.specs.Layouts.{pieces_of, width_of, slot, gathered, scattered, signed_of, operand_from, bits_from, operand_in, operands_in, code_with, code_with_all, is_readable, InRange, HasOperands}
 use Rattle.mw_tables.specs.Sound.{with_pieces, with_fields, pieces_apart, fields_apart}
-use Rattle.mw_tables.proofs.PieceLaws.{Within, or_assoc, or-clear, or-within, within-trans, clear-part, within-with_pieces, scattered-clear, scattered-within, gathered-apart, gathered-clear, gathered-or, gathered-lt, gathered-scattered, total}
+use Rattle.mw_tables.proofs.PieceLaws.{Within, or_assoc, or-clear, or-within, within-trans, clear-part, within-with_pieces, scattered-clear, scattered-within, gathered-apart, gathered-clear, gathered-or, gathered-lt, gathered-scattered, scattered-gathered, total}
 
 -- a readable field and what is shifted in have at most 62 bits
 pub is_readable-narrow : (f : Field) → is_readable f ≡ true → width_of f + f.shift < 63
@@ -191,6 +191,18 @@ operands_in-code_with_all base used (f ∷ fs) (z ∷ zs) test apart within has 
     let rest : operands_in (bit_or base (bit_or c r)) fs ≡ zs =
     ap (λ n. operands_in n fs) (sym (or_assoc base c r)) ∙ operands_in-code_with_all (bit_or base c) more fs zs tests.1 parts.1 joined has.1 in
     same_lists _ z _ zs here rest
+
+-- what is read from fields and written there again are the code's bits there
+pub code_with_all-operands_in : (code used : ℕ) (fs : List Field) → list_all is_readable fs ≡ true → bit_or (bit_and code used) (code_with_all fs (operands_in code fs)) ≡ bit_and code (with_fields used fs)
+code_with_all-operands_in code used [] test = or_zero_r (bit_and code used)
+code_with_all-operands_in code used (f ∷ fs) test =
+    let more = with_pieces used (pieces_of f) in
+    let tests = and_parts (is_readable f) (list_all is_readable fs) test in
+    let r = code_with_all fs (operands_in code fs) in
+    ap (λ n. bit_or (bit_and code used) (bit_or (scattered n (pieces_of f)) r)) (bits_from-operand_from f (gathered code (pieces_of f)) tests.0 (gathered-width code f))
+    ∙ sym (or_assoc (bit_and code used) (scattered (gathered code (pieces_of f)) (pieces_of f)) r)
+    ∙ ap (λ n. bit_or n r) (scattered-gathered code used (pieces_of f))
+    ∙ code_with_all-operands_in code more fs tests.1
 
 -- the operands that are read are in range
 pub operands_in-HasOperands : (code : ℕ) (fs : List Field) → HasOperands fs (operands_in code fs)

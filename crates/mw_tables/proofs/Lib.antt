@@ -2,3 +2,4 @@ pub mod PieceLaws
 pub mod FieldLaws
 pub mod OperandLaws
 mod CodeLemmas
+pub mod RangeLaws

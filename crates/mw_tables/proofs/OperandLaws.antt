@@ -2,7 +2,7 @@
 use Rattle.std.proofs.Common.{◌≡◌, ℕ, zero, suc, ◌+◌, ◌-◌, ◌*◌, ◌/◌, ◌%◌, ◌^◌, ◌<◌, ◌≤◌, Bool, true, false, ◌&&◌, List, [], ◌∷◌, Some, None, ℤ, bit_and, bit_or, nat_lt, slice_get, refl, sym, ap, subst, ◌∙◌, arith, lit≤, mod-eq_of_lt}
 use Rattle.std.specs.Int.Bits.{or_zero_r}
 use Rattle.std.specs.List.{list_all}
-use Rattle.std.proofs.lemmas.Nat.{and_comm, and_le_r, and_shr, and_mod, mod_low, shr_high}
+use Rattle.std.proofs.lemmas.Nat.{and_comm, and_le_r, and_shr, and_mod, and_block, mod_low, shr_high}
 use Rattle.std.proofs.lemmas.Bool.{and_parts, and_from, ltb-true, eqb-true, cases_Bool}
 use Rattle.mw_tables.specs.declared.row.PrefixKind.{PrefixKind}
 use Rattle.mw_tables.specs.declared.row.PrefixKind.TheVariants.{Plain, Mls, Eight, Nop}
@@ -13,7 +13,7 @@ use Rattle.mw_tables.specs.Layouts.{flag, flags_of, all_fields, is_readable, ope
 use Rattle.mw_tables.specs.Rows.{lines, table, layouts}
 use Rattle.mw_tables.specs.Sound.{with_fields, fields_apart, fixed_mask, fixed_value, used_bits, code_of, bits_of_kind, is_sound, all_sound}
 use Rattle.mw_tables.proofs.PieceLaws.{Within, and-or, or-within, within-trans}
-use Rattle.mw_tables.proofs.FieldLaws.{within-with_fields, code_with_all-clear, code_with_all-within, operands_in-code_with_all}
+use Rattle.mw_tables.proofs.FieldLaws.{within-with_fields, code_with_all-clear, code_with_all-within, operands_in-code_with_all, code_with_all-operands_in}
 
 -- what is known of a row that is sound with its layout
 pub record IsSound (row : TableRow) (layout : Layout) : Type 0 where
@@ -63,6 +63,13 @@ code_of-used row layout zs test =
     (within-trans (fixed_value row) (fixed_mask row) (used_bits row layout) sound.fixed (within-with_fields (fixed_mask row) (all_fields row layout)))
     (code_with_all-within (fixed_mask row) (all_fields row layout) zs)
 
+-- a code that has the row's fixed bits is, but for its reserved bits, that of the operands that it has
+pub code_of-operands_in : (row : TableRow) (layout : Layout) (code : ℕ) → is_sound row layout ≡ true → bit_and code (fixed_mask row) ≡ fixed_value row → code_of row layout (operands_in code (all_fields row layout)) ≡ bit_and code (used_bits row layout)
+code_of-operands_in row layout code test is =
+    let sound = is_sound-parts row layout test in
+    ap (λ n. bit_or n (code_with_all (all_fields row layout) (operands_in code (all_fields row layout)))) (sym is)
+    ∙ code_with_all-operands_in code (fixed_mask row) (all_fields row layout) sound.readable
+
 within-lt : (n mask limit : ℕ) → Within n mask → mask < limit → n < limit
 within-lt n mask limit within below = let least : bit_and n mask ≤ mask = and_le_r n mask in subst (λ k. k < limit) within (omega arith)
 
@@ -107,6 +114,13 @@ code_of-prefix row layout zs test =
     ∙ sym (and_shr code (fixed_mask row) 32)
     ∙ ap (λ n. n / 2 ^ 32) (code_of-fixed row layout zs test)
     ∙ shr_high (prefix_value row.prefix) 32 row.value (within-lt row.value row.mask (2 ^ 32) sound.value sound.mask)
+
+-- a prefix and a suffix that have the row's bits have them together
+pub fixed-halves : (row : TableRow) (prefix suffix : ℕ) → row.mask < 2 ^ 32 → suffix < 2 ^ 32 → bit_and prefix (prefix_mask row.prefix) ≡ prefix_value row.prefix → bit_and suffix row.mask ≡ row.value → bit_and (prefix * 2 ^ 32 + suffix) (fixed_mask row) ≡ fixed_value row
+fixed-halves row prefix suffix narrow below p s =
+    and_block 32 prefix (prefix_mask row.prefix) suffix row.mask below narrow
+    ∙ ap (λ n. n * 2 ^ 32 + bit_and suffix row.mask) p
+    ∙ ap (λ n. prefix_value row.prefix * 2 ^ 32 + n) s
 
 -- the whole table is sound
 pub table-sound : all_sound table layouts ≡ true

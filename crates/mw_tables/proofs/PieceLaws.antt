@@ -2,7 +2,7 @@
 use Rattle.std.proofs.Common.{◌≡◌, ℕ, zero, suc, ◌+◌, ◌-◌, ◌*◌, ◌/◌, ◌%◌, ◌^◌, ◌<◌, ◌≤◌, min, max, true, ◌&&◌, List, [], ◌∷◌, bit_and, bit_or, refl, sym, ap, ◌∙◌, arith, mod-lt, mod-eq_of_lt, pow_pos}
 use Rattle.std.specs.Int.Bits.{and_zero_l, and_zero_r, or_zero_l, or_zero_r, or_self, and_self}
 use Rattle.std.specs.Int.{bit_at}
-use Rattle.std.proofs.lemmas.Nat.{and_comm, or_comm, and_assoc, and_or_self, or_shr, or_mod, or_block, shl-shr, mod-pow-add, pow-add, mod_below, mul-le}
+use Rattle.std.proofs.lemmas.Nat.{and_comm, or_comm, and_assoc, and_or_self, or_shr, or_mod, or_block, shl-shr, mod-pow-add, pow-add, mod_below, mod_low, shr_high, mul-le}
 use Rattle.std.proofs.lemmas.Nat.Bits.{same_from_bits, bit_at_and, bit_at_or, and_high}
 use Rattle.std.proofs.lemmas.Bool.{and_parts, eqb-true}
 use Rattle.mw_tables.specs.declared.layout.Piece.{Piece}
@@ -193,3 +193,30 @@ gathered-scattered n used (p ∷ ps) test =
     ∙ sym (swapped (n % 2 ^ p.width) (n / 2 ^ p.width % 2 ^ total ps) (2 ^ p.width))
     ∙ sym (mod-pow-add n (total ps) p.width)
     ∙ ap (λ (k : ℕ). n % 2 ^ k) (omega arith)
+
+-- a part of a number over an or of masks
+pub and-or_masks : (n a b : ℕ) → bit_or (bit_and n a) (bit_and n b) ≡ bit_and n (bit_or a b)
+and-or_masks n a b =
+    ap (λ k. bit_or k (bit_and n b)) (and_comm n a)
+    ∙ ap (bit_or (bit_and a n)) (and_comm n b)
+    ∙ sym (and-or a b n)
+    ∙ and_comm (bit_or a b) n
+
+-- what is read from pieces and written there again are the code's bits there
+pub scattered-gathered : (code used : ℕ) (ps : List Piece) → bit_or (bit_and code used) (scattered (gathered code ps) ps) ≡ bit_and code (with_pieces used ps)
+scattered-gathered code used [] = or_zero_r (bit_and code used)
+scattered-gathered code used (p ∷ ps) =
+    let s = slot code p in
+    let g = gathered code ps in
+    let below : s < 2 ^ p.width = mod_below (code / 2 ^ p.low) (2 ^ p.width) (pow_pos p.width) in
+    let here : (s + 2 ^ p.width * g) % 2 ^ p.width * 2 ^ p.low ≡ bit_and code (piece_mask p) =
+    ap (λ n. n % 2 ^ p.width * 2 ^ p.low) (sym (swapped s g (2 ^ p.width)))
+    ∙ ap (λ n. n * 2 ^ p.low) (mod_low g p.width s below)
+    ∙ sym (and_high code p.width p.low) in
+    let rest : (s + 2 ^ p.width * g) / 2 ^ p.width ≡ g =
+    ap (λ n. n / 2 ^ p.width) (sym (swapped s g (2 ^ p.width))) ∙ shr_high g p.width s below in
+    ap (λ n. bit_or (bit_and code used) (bit_or n (scattered ((s + 2 ^ p.width * g) / 2 ^ p.width) ps))) here
+    ∙ ap (λ n. bit_or (bit_and code used) (bit_or (bit_and code (piece_mask p)) (scattered n ps))) rest
+    ∙ sym (or_assoc (bit_and code used) (bit_and code (piece_mask p)) (scattered g ps))
+    ∙ ap (λ n. bit_or n (scattered g ps)) (and-or_masks code used (piece_mask p))
+    ∙ scattered-gathered code (bit_or used (piece_mask p)) ps

@@ -1,5 +1,5 @@
 -- Where the operands of a row stand: which pieces of the code hold each of them (Book I, instruction fields).
-use Rattle.std.specs.Prelude.{ℕ, ◌+◌, ◌-◌, ◌*◌, ◌/◌, ◌%◌, ◌^◌, ◌<◌, ◌≡◌, Bool, true, false, ◌&&◌, nat_lt, if◌then◌else◌, List, [], ◌∷◌, ◌++◌, length, map, ℤ, pos, ◌-ℤ◌, slice_index_or, bit_or}
+use Rattle.std.specs.Prelude.{ℕ, ◌+◌, ◌-◌, ◌*◌, ◌/◌, ◌%◌, ◌^◌, ◌<◌, ◌≡◌, Bool, true, false, ◌&&◌, nat_lt, if◌then◌else◌, List, [], ◌∷◌, ◌++◌, length, map, ℤ, pos, neg_ℤ, ◌-ℤ◌, ◌*ℤ◌, ◌≤ℤ◌, ◌<ℤ◌, slice_index_or, bit_or}
 use Rattle.std.specs.List.{list_all}
 use Rattle.std.specs.Int.{w64, cast_unsigned}
 use Rattle.mw_tables.specs.declared.row.Shape.{Shape}
@@ -400,3 +400,19 @@ HasOperands [] [] = Unit {0}
 HasOperands [] (z ∷ zs) = ⊥
 HasOperands (f ∷ fs) [] = ⊥
 HasOperands (f ∷ fs) (z ∷ zs) = InRange f z × HasOperands fs zs
+
+-- the operand is the number of a register
+abbrev pub IsRegister : ℤ → Type 0
+IsRegister z = (number : ℕ) × (number < 32) × (z ≡ pos number)
+
+-- an unsigned number of so many bits
+abbrev pub IsUnsigned : ℕ → ℤ → Type 0
+IsUnsigned width z = (number : ℕ) × (number < 2 ^ width) × (z ≡ pos number)
+
+-- a signed number of so many bits
+abbrev pub IsSigned : ℕ → ℤ → Type 0
+IsSigned width z = (neg_ℤ (pos (2 ^ (width - 1))) ≤ℤ z) × (z <ℤ pos (2 ^ (width - 1)))
+
+-- a multiple of a step
+abbrev pub IsMultiple : ℕ → ℤ → Type 0
+IsMultiple step z = (number : ℤ) × (z ≡ number *ℤ pos step)
