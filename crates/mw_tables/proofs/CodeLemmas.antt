@@ -1,13 +1,13 @@
 -- Operands as the code computes them.
-use Rattle.std.proofs.Common.{◌≡◌, ℕ, zero, suc, ◌+◌, ◌-◌, ◌*◌, ◌/◌, ◌%◌, ◌^◌, ◌<◌, ◌≤◌, true, ◌&&◌, bit_and, bit_or, refl, sym, ap, subst, ◌∙◌, arith, mod-eq_of_lt, pow_pos}
-use Rattle.std.specs.Int.Bits.{or_zero_r, or_shifted_r}
+use Rattle.std.proofs.Common.{◌≡◌, ℕ, suc, ◌+◌, ◌-◌, ◌*◌, ◌/◌, ◌%◌, ◌^◌, ◌<◌, ◌≤◌, true, bit_and, bit_or, ap, ◌∙◌, arith, pow_pos}
+use Rattle.std.specs.Int.Bits.{or_shifted_r}
 use Rattle.std.proofs.lemmas.Nat.{and_mask, shl_below, shl_whole, mod_below, pow-add, mul-le}
-use Rattle.std.proofs.lemmas.Bool.{and_parts, ltb-true}
+use Rattle.std.proofs.lemmas.Bool.{ltb-true}
 use Rattle.std.proofs.Math.Pow.{pow_mono}
 use Rattle.mw_tables.specs.declared.layout.Piece.{Piece}
 use Rattle.mw_tables.specs.declared.layout.Field.{Field}
 use Rattle.mw_tables.specs.Layouts.{slot, gathered, pieces_of, width_of, is_within, is_readable}
-use Rattle.mw_tables.proofs.FieldLaws.{is_readable-narrow, gathered-width}
+use Rattle.mw_tables.proofs.FieldLaws.{is_readable-narrow}
 
 -- a piece's bits stand within 63
 pub is_within-lt : (p : Piece) → is_within p ≡ true → p.low + p.width < 64

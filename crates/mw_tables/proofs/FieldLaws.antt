@@ -1,17 +1,17 @@
 -- Operands in fields: what is written is read, of the definitions alone.
-use Rattle.std.proofs.Common.{◌≡◌, ℕ, zero, suc, ◌+◌, ◌-◌, ◌*◌, ◌/◌, ◌%◌, ◌^◌, ◌<◌, ◌≤◌, Bool, true, false, ◌&&◌, cond, List, [], ◌∷◌, ◌++◌, length, map, take, drop, ℤ, pos, negsuc, ◌-ℤ◌, bit_and, bit_or, nat_lt, refl, sym, ap, subst, ◌∙◌, arith, mod-eq_of_lt, pow_pos, inl, inr, w64}
+use Rattle.std.proofs.Common.{◌≡◌, ℕ, zero, suc, ◌+◌, ◌-◌, ◌*◌, ◌/◌, ◌%◌, ◌^◌, ◌<◌, ◌≤◌, true, false, List, [], ◌∷◌, ◌++◌, length, take, drop, ℤ, pos, negsuc, ◌-ℤ◌, bit_and, bit_or, refl, sym, ap, subst, ◌∙◌, arith, mod-eq_of_lt, pow_pos, inl, inr, w64}
 use Rattle.std.specs.Int.{cast_unsigned}
 use Rattle.std.specs.Int.Bits.{and_zero_l, and_self, or_zero_l, or_zero_r}
 use Rattle.std.specs.List.{list_all}
-use Rattle.std.proofs.lemmas.Nat.{shl-shr, shl_below, mod_below, mod_low, pow-add, and_comm}
+use Rattle.std.proofs.lemmas.Nat.{shl-shr, shl_below, mod_below, mod_low, pow-add}
 use Rattle.std.proofs.lemmas.Int.{ints}
-use Rattle.std.proofs.lemmas.Bool.{and_parts, and_from, ltb-true, cases_Bool, cases_lt, lt-ltb, le-ltb, cond-true, cond-false}
+use Rattle.std.proofs.lemmas.Bool.{and_parts, ltb-true, cases_Bool, cases_lt, lt-ltb, le-ltb, cond-true, cond-false}
 use Rattle.std.proofs.lemmas.List.{map-append}
 use Rattle.std.proofs.Math.Nat.{mul_assoc}
 use Rattle.std.proofs.Math.Pow.{pow_mono}
 use Rattle.mw_tables.specs.declared.layout.Piece.{Piece}
 use Rattle.mw_tables.specs.declared.layout.Field.{Field}
-use Rattle.mw_tables.specs.Layouts.{pieces_of, width_of, slot, gathered, scattered, signed_of, operand_from, bits_from, operand_in, operands_in, code_with, code_with_all, is_readable, InRange, HasOperands}
+use Rattle.mw_tables.specs.Layouts.{pieces_of, width_of, gathered, scattered, signed_of, operand_from, bits_from, operand_in, operands_in, code_with, code_with_all, is_readable, InRange, HasOperands}
 use Rattle.mw_tables.specs.Sound.{with_pieces, with_fields, pieces_apart, fields_apart}
 use Rattle.mw_tables.proofs.PieceLaws.{Within, or_assoc, or-clear, or-within, within-trans, clear-part, within-with_pieces, scattered-clear, scattered-within, gathered-apart, gathered-clear, gathered-or, gathered-lt, gathered-scattered, scattered-gathered, total}
 

@@ -1,9 +1,9 @@
 -- Operands in the code of a row: what is written is read, of the definitions alone.
-use Rattle.std.proofs.Common.{◌≡◌, ℕ, zero, suc, ◌+◌, ◌-◌, ◌*◌, ◌/◌, ◌%◌, ◌^◌, ◌<◌, ◌≤◌, Bool, true, false, ◌&&◌, List, [], ◌∷◌, Some, None, ℤ, bit_and, bit_or, nat_lt, slice_get, refl, sym, ap, subst, ◌∙◌, arith, lit≤, mod-eq_of_lt}
+use Rattle.std.proofs.Common.{◌≡◌, ℕ, zero, suc, ◌+◌, ◌*◌, ◌/◌, ◌%◌, ◌^◌, ◌<◌, ◌≤◌, Bool, true, false, List, [], ◌∷◌, Some, ℤ, bit_and, bit_or, slice_get, refl, sym, ap, subst, ◌∙◌, arith, lit≤}
 use Rattle.std.specs.Int.Bits.{or_zero_r}
 use Rattle.std.specs.List.{list_all}
-use Rattle.std.proofs.lemmas.Nat.{and_comm, and_le_r, and_shr, and_mod, and_block, mod_low, shr_high}
-use Rattle.std.proofs.lemmas.Bool.{and_parts, and_from, ltb-true, eqb-true, cases_Bool}
+use Rattle.std.proofs.lemmas.Nat.{and_le_r, and_shr, and_mod, and_block, mod_low, shr_high}
+use Rattle.std.proofs.lemmas.Bool.{and_parts, and_from, ltb-true, eqb-true}
 use Rattle.mw_tables.specs.declared.row.PrefixKind.{PrefixKind}
 use Rattle.mw_tables.specs.declared.row.PrefixKind.TheVariants.{Plain, Mls, Eight, Nop}
 use Rattle.mw_tables.specs.declared.layout.Field.{Field}
@@ -11,7 +11,7 @@ use Rattle.mw_tables.specs.declared.layout.Layout.{Layout}
 use Rattle.mw_tables.specs.Row.{TableRow, prefix_mask, prefix_value}
 use Rattle.mw_tables.specs.Layouts.{flag, flags_of, all_fields, is_readable, operands_in, code_with_all, HasOperands}
 use Rattle.mw_tables.specs.Rows.{lines, table, layouts}
-use Rattle.mw_tables.specs.Sound.{with_fields, fields_apart, fixed_mask, fixed_value, used_bits, code_of, bits_of_kind, is_sound, all_sound}
+use Rattle.mw_tables.specs.Sound.{fields_apart, fixed_mask, fixed_value, used_bits, code_of, bits_of_kind, is_sound, all_sound}
 use Rattle.mw_tables.proofs.PieceLaws.{Within, and-or, or-within, within-trans}
 use Rattle.mw_tables.proofs.FieldLaws.{within-with_fields, code_with_all-clear, code_with_all-within, operands_in-code_with_all, code_with_all-operands_in}
 
@@ -26,6 +26,7 @@ pub record IsSound (row : TableRow) (layout : Layout) : Type 0 where
 
 -- the test, in its parts
 pub is_sound-parts : (row : TableRow) (layout : Layout) → is_sound row layout ≡ true → IsSound row layout
+unfolding is_sound
 is_sound-parts row layout test =
     let a = and_parts _ _ test in
     let b = and_parts _ _ a.1 in
@@ -124,7 +125,7 @@ fixed-halves row prefix suffix narrow below p s =
 
 -- the whole table is sound
 pub table-sound : all_sound table layouts ≡ true
-unfolding table layouts lines
+unfolding is_sound table layouts lines
 table-sound = refl
 
 at_place : (rows : List TableRow) (kinds : List Layout) (place : ℕ) (row : TableRow) (layout : Layout) → all_sound rows kinds ≡ true → slice_get rows place ≡ Some row → slice_get kinds place ≡ Some layout → is_sound row layout ≡ true

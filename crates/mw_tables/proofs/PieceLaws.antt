@@ -1,6 +1,6 @@
 -- Numbers in pieces of a code: what is written is read, of the definitions alone.
-use Rattle.std.proofs.Common.{◌≡◌, ℕ, zero, suc, ◌+◌, ◌-◌, ◌*◌, ◌/◌, ◌%◌, ◌^◌, ◌<◌, ◌≤◌, min, max, true, ◌&&◌, List, [], ◌∷◌, bit_and, bit_or, refl, sym, ap, ◌∙◌, arith, mod-lt, mod-eq_of_lt, pow_pos}
-use Rattle.std.specs.Int.Bits.{and_zero_l, and_zero_r, or_zero_l, or_zero_r, or_self, and_self}
+use Rattle.std.proofs.Common.{◌≡◌, ℕ, zero, suc, ◌+◌, ◌*◌, ◌/◌, ◌%◌, ◌^◌, ◌<◌, ◌≤◌, min, max, true, List, [], ◌∷◌, bit_and, bit_or, refl, sym, ap, ◌∙◌, arith, mod-eq_of_lt, pow_pos}
+use Rattle.std.specs.Int.Bits.{and_zero_l, and_zero_r, or_zero_l, or_zero_r, and_self}
 use Rattle.std.specs.Int.{bit_at}
 use Rattle.std.proofs.lemmas.Nat.{and_comm, or_comm, and_assoc, and_or_self, or_shr, or_mod, or_block, shl-shr, mod-pow-add, pow-add, mod_below, mod_low, shr_high, mul-le}
 use Rattle.std.proofs.lemmas.Nat.Bits.{same_from_bits, bit_at_and, bit_at_or, and_high}

@@ -1,10 +1,10 @@
 -- What an operand in the range of a field is, by the kind of field.
-use Rattle.std.proofs.Common.{◌≡◌, ℕ, zero, suc, ◌+◌, ◌-◌, ◌*◌, ◌^◌, ◌<◌, ◌≤◌, true, false, cond, List, [], ◌∷◌, ℤ, pos, negsuc, neg_ℤ, ◌-ℤ◌, ◌*ℤ◌, ◌≤ℤ◌, ◌<ℤ◌, nat_lt, refl, sym, ap, subst, ◌∙◌, arith, inl, inr}
+use Rattle.std.proofs.Common.{◌≡◌, ℕ, zero, suc, ◌+◌, ◌-◌, ◌*◌, ◌^◌, ◌<◌, ◌≤◌, true, false, ℤ, pos, negsuc, neg_ℤ, ◌-ℤ◌, ◌*ℤ◌, ◌≤ℤ◌, ◌<ℤ◌, refl, sym, ap, subst, ◌∙◌, arith, inl, inr}
 use Rattle.std.proofs.lemmas.Nat.{shl_below, pow-add}
 use Rattle.std.proofs.lemmas.Int.{ints}
 use Rattle.std.proofs.lemmas.Bool.{cases_lt}
 use Rattle.mw_tables.specs.declared.layout.Field.{Field}
-use Rattle.mw_tables.specs.Layouts.{width_of, signed_of, operand_from, InRange, IsRegister, IsUnsigned, IsSigned, IsMultiple}
+use Rattle.mw_tables.specs.Layouts.{width_of, signed_of, InRange, IsRegister, IsUnsigned, IsSigned, IsMultiple}
 use Rattle.mw_tables.proofs.FieldLaws.{operand_from-unsigned, operand_from-signed, signed_of-low, signed_of-high}
 
 unshifted : (n shift : ℕ) → shift ≡ 0 → n * 2 ^ shift ≡ n
@@ -72,7 +72,7 @@ InRange-multiple f z signed within =
     elim (cases_lt n (2 ^ (width - 1))) [
       | inl low ↦ (pos within.0, is ∙ signed_of-low width n low ∙ pos_times within.0 (2 ^ f.shift))
       | inr high ↦ (
-          negsuc (2 ^ width_of f - suc within.0),
-          is ∙ signed_of-high width n high ∙ ap (λ k. pos n -ℤ pos k) parts ∙ neg_times within.0 (2 ^ width_of f) (2 ^ f.shift) within.1,
-        )
+        negsuc (2 ^ width_of f - suc within.0),
+        is ∙ signed_of-high width n high ∙ ap (λ k. pos n -ℤ pos k) parts ∙ neg_times within.0 (2 ^ width_of f) (2 ^ f.shift) within.1,
+      )
     ]

@@ -57,7 +57,7 @@ bits_of_kind Eight = 64
 bits_of_kind Nop = 64
 
 -- the row's fixed bits, its operands and its forms have bits of their own, and all have room in the code
-abbrev pub is_sound : TableRow → Layout → Bool
+unfoldable pub is_sound : TableRow → Layout → Bool
 is_sound row layout = nat_lt row.mask (2 ^ 32) && (bit_and row.value row.mask == row.value && (bit_and (fixed_value row) (fixed_mask row) == fixed_value row && (list_all is_readable (all_fields row layout) && (fields_apart (fixed_mask row) (all_fields row layout) && nat_lt (used_bits row layout) (2 ^ bits_of_kind row.prefix)))))
 
 -- each row is sound with its layout

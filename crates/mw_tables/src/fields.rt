@@ -13,7 +13,7 @@ use named::{
 
 /// The fields, each under its name in the manual (Book I, instruction fields).
 #[rattlefmt::skip]
-mod named {
+pub(crate) mod named {
     use crate::layout::{Field, Piece};
 
     /// A piece that isn't used.

@@ -1,4 +1,4 @@
-use Rattle.std.proofs.Common.{ℤ, ◌/◌, ◌%◌, ◌-◌, ◌^◌, w64, of_z, bit_and, ap, ◌∙◌}
+use Rattle.std.proofs.Common.{◌/◌, ◌%◌, ◌^◌, w64, bit_and, ap, ◌∙◌}
 use Rattle.std.proofs.lemmas.Nat.{and_mask}
 use Rattle.std.proofs.lemmas.Int.{to_z-of_z}
 use Rattle.mw_tables.specs.Layouts.{width_of, bits_from}

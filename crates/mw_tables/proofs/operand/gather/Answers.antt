@@ -1,4 +1,4 @@
-use Rattle.std.proofs.Common.{ℕ, ◌^◌, ◌<◌, ◌≡◌, sym, subst}
+use Rattle.std.proofs.Common.{ℕ, ◌^◌, ◌<◌, sym, subst}
 use Rattle.mw_tables.specs.Layouts.{width_of}
 use Rattle.mw_tables.proofs.FieldLaws.{gathered-width}
 use Rattle.mw_tables.proofs.CodeLemmas.{gathered-code}

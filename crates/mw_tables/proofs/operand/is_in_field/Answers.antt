@@ -1,4 +1,4 @@
-use Rattle.std.proofs.Common.{ℤ, ◌≡◌, true, w64, to_z, of_z, FitsSigned, IsTrue, nat_eq, sym, ap, ◌∙◌, rules}
+use Rattle.std.proofs.Common.{ℤ, ◌≡◌, true, w64, to_z, of_z, FitsSigned, nat_eq, sym, ap, ◌∙◌, rules}
 use Rattle.std.proofs.lemmas.Int.{to_z-of_z}
 use Rattle.std.proofs.lemmas.Bool.{eqb-true, eq-eqb}
 use Rattle.mw_tables.specs.Layouts.{operand_from, bits_from}

@@ -1,6 +1,6 @@
-use Rattle.std.proofs.Common.{ℕ, ◌+◌, ◌*◌, ◌%◌, ◌^◌, ◌<◌, ◌≡◌, pos, w64, to_z, FitsSigned, sym, ap, subst, ◌∙◌, arith, rules}
+use Rattle.std.proofs.Common.{ℕ, ◌+◌, ◌*◌, ◌^◌, ◌<◌, pos, w64, to_z, FitsSigned, sym, ap, subst, ◌∙◌, arith, rules}
 use Rattle.std.proofs.lemmas.Int.{to_z-of_z, to_z_pos}
-use Rattle.mw_tables.specs.Layouts.{width_of, signed_of}
+use Rattle.mw_tables.specs.Layouts.{signed_of}
 use Rattle.mw_tables.proofs.FieldLaws.{operand_from-signed, operand_from-unsigned}
 use Rattle.mw_tables.proofs.CodeLemmas.{shifted-below, shifted-narrow, shifted-whole}
 use Rattle.mw_tables.proofs.operand.operand_of_bits.Goals as goal

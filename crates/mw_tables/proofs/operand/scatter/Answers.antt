@@ -1,4 +1,4 @@
-use Rattle.std.proofs.Common.{ℕ, ◌≡◌, bit_or, ap, sym, ◌∙◌}
+use Rattle.std.proofs.Common.{ℕ, ◌≡◌, bit_or}
 use Rattle.std.specs.Int.Bits.{or_zero_r}
 use Rattle.mw_tables.proofs.operand.scatter.Goals as goal
 

@@ -1,5 +1,5 @@
-use Rattle.std.proofs.Common.{ℕ, ◌+◌, ◌-◌, ◌*◌, ◌%◌, ◌^◌, ◌<◌, ◌≤◌, ◌≡◌, pos, ◌-ℤ◌, w64, to_z, FitsSigned, sym, ap, subst, ◌∙◌, arith, rules}
-use Rattle.std.proofs.lemmas.Int.{ints, to_z_pos}
+use Rattle.std.proofs.Common.{ℕ, ◌*◌, ◌%◌, ◌^◌, ◌<◌, ◌≤◌, ◌≡◌, ◌-ℤ◌, w64, to_z, FitsSigned, sym, subst, arith, rules}
+use Rattle.std.proofs.lemmas.Int.{ints}
 use Rattle.std.proofs.lemmas.Nat.{one_shl}
 use Rattle.std.proofs.Math.Pow.{pow_mono}
 use Rattle.mw_tables.proofs.operand.sign.Goals as goal
