@@ -1,5 +1,6 @@
 -- Where the operands of a row stand: which pieces of the code hold each of them (Book I, instruction fields).
-use Rattle.std.specs.Prelude.{ℕ, ◌+◌, ◌-◌, ◌*◌, ◌/◌, ◌%◌, ◌^◌, ◌<◌, ◌≡◌, Bool, true, false, ◌&&◌, nat_lt, if◌then◌else◌, List, [], ◌∷◌, ◌++◌, length, map, ℤ, pos, ◌-ℤ◌, slice_index_or, bit_or}
+use Rattle.std.specs.Prelude.{ℕ, ◌+◌, ◌-◌, ◌*◌, ◌/◌, ◌%◌, ◌^◌, ◌<◌, ◌≡◌, Bool, true, false, ◌&&◌, nat_lt, if◌then◌else◌, List, [], ◌∷◌, ◌++◌, map, ℤ, pos, neg_ℤ, ◌-ℤ◌, ◌*ℤ◌, ◌≤ℤ◌, ◌<ℤ◌, slice_index_or, bit_or}
+use Rattle.std.specs.List.{list_all}
 use Rattle.std.specs.Int.{w64, cast_unsigned}
 use Rattle.mw_tables.specs.declared.row.Shape.{Shape}
 use Rattle.mw_tables.specs.declared.row.Shape.TheVariants.{RtRaSi, BfLRaSi, BfLRaUi, ToRaSi, RaRsUi, RtD, Target, BoBiTarget, BoBiBh, BtBaBb, BfBfa, RaRsShMbMe, RaRsRbMbMe, RaRsShMb, RaRsShMe, RaRsRbMb, RaRsRbMe, RtRaRbRc, RtRaRb, RtRa, RtRaRbCy, RaRsRb, RaRsSh, RaRs, BfLRaRb, ToRaRb, RtRaRbBc, Rt, RtFxm, FxmRs, RtBfa, RtBi, BfRaRb, Bf, RtDRa, RaRb, Empty, L, RsL, RbRsRicPrsR, RtSpr, SprRs, RtTbr, RtL, RtRaSiR, RtDRaR}
@@ -297,13 +298,29 @@ shape_of XRtL = RtL
 shape_of MlsRtRaSiR = RtRaSiR
 shape_of WideRtDRaR = RtDRaR
 
--- a form that a bit chooses, where the row has that form: an operand of one bit, or of none
-abbrev pub flag : Bool → ℕ → Field
-flag exists bit = if exists then unsigned (bits bit bit) else unsigned no_bits
+-- OE: whether overflow is recorded
+abbrev pub flag_oe : Field
+flag_oe = unsigned (bits 21 21)
+
+-- Rc: whether the result is recorded in field 0 of CR
+abbrev pub flag_rc : Field
+flag_rc = unsigned (bits 31 31)
+
+-- AA: whether the target is absolute
+abbrev pub flag_aa : Field
+flag_aa = unsigned (bits 30 30)
+
+-- LK: whether the link register is set
+abbrev pub flag_lk : Field
+flag_lk = unsigned (bits 31 31)
+
+-- the field where the row has that form; else a field without bits, whose operand is 0
+abbrev pub flag : Bool → Field → Field
+flag exists f = if exists then f else unsigned no_bits
 
 -- the forms of a row: OE, Rc, AA and LK
 abbrev pub flags_of : TableRow → List Field
-flags_of row = flag row.oe 21 ∷ flag row.rc 31 ∷ flag row.absolute 30 ∷ flag row.links 31 ∷ []
+flags_of row = flag row.oe flag_oe ∷ flag row.rc flag_rc ∷ flag row.absolute flag_aa ∷ flag row.links flag_lk ∷ []
 
 -- all that stands in a row's code beside its fixed bits: the operands, then the forms
 abbrev pub all_fields : TableRow → Layout → List Field
@@ -316,6 +333,14 @@ pieces_of f = f.low ∷ f.middle ∷ f.high ∷ []
 -- how many bits a field has
 abbrev pub width_of : Field → ℕ
 width_of f = f.low.width + (f.middle.width + f.high.width)
+
+-- the piece stands within the low 63 bits
+abbrev pub is_within : Piece → Bool
+is_within p = nat_lt (p.low + p.width) 64
+
+-- a field that can be read and written: its pieces stand within the code, and what it holds fits 62 bits
+abbrev pub is_readable : Field → Bool
+is_readable f = list_all is_within (pieces_of f) && nat_lt (width_of f + f.shift) 63
 
 -- the number in a piece of a code
 abbrev pub slot : ℕ → Piece → ℕ
@@ -375,3 +400,19 @@ HasOperands [] [] = Unit {0}
 HasOperands [] (z ∷ zs) = ⊥
 HasOperands (f ∷ fs) [] = ⊥
 HasOperands (f ∷ fs) (z ∷ zs) = InRange f z × HasOperands fs zs
+
+-- the operand is the number of a register
+abbrev pub IsRegister : ℤ → Type 0
+IsRegister z = (number : ℕ) × (number < 32) × (z ≡ pos number)
+
+-- an unsigned number of so many bits
+abbrev pub IsUnsigned : ℕ → ℤ → Type 0
+IsUnsigned width z = (number : ℕ) × (number < 2 ^ width) × (z ≡ pos number)
+
+-- a signed number of so many bits
+abbrev pub IsSigned : ℕ → ℤ → Type 0
+IsSigned width z = (neg_ℤ (pos (2 ^ (width - 1))) ≤ℤ z) × (z <ℤ pos (2 ^ (width - 1)))
+
+-- a multiple of a step
+abbrev pub IsMultiple : ℕ → ℤ → Type 0
+IsMultiple step z = (number : ℤ) × (z ≡ number *ℤ pos step)

@@ -1,16 +1,19 @@
-ghost use Rattle.std.specs.Prelude.{◌≡◌};
-ghost use Rattle.mw_tables.specs.Layouts.{fields_of};
+ghost use Rattle.std.specs.Prelude.{◌≡◌, ◌≤◌, IsTrue, length, if◌then◌else◌};
+ghost use Rattle.std.specs.List.{list_all};
+ghost use Rattle.mw_tables.specs.Row.{row_of};
+ghost use Rattle.mw_tables.specs.Layouts.{fields_of, flag, flags_of, is_readable};
 
 use crate::layout::{Field, Layout};
+use crate::row::Row;
 use named::{
-    BA, BB, BC, BD, BF, BFA, BH, BI, BO, BT, CY, D, D_WIDE, DS, DX_D, FXM, L, L_DARN, L_MSR,
-    L_SYNC, LI, MASK_END, MB, ME, PRS, R, R_WIDE, RA, RB, RC, RIC, RS, RT, SH, SH_WIDE, SI, SPR,
-    TO, UI,
+    BA, BB, BC, BD, BF, BFA, BH, BI, BO, BT, CY, D, D_WIDE, DS, DX_D, FLAG_AA, FLAG_LK, FLAG_OE,
+    FLAG_RC, FXM, L, L_DARN, L_MSR, L_SYNC, LI, MASK_END, MB, ME, NO_FLAG, PRS, R, R_WIDE, RA, RB,
+    RC, RIC, RS, RT, SH, SH_WIDE, SI, SPR, TO, UI,
 };
 
 /// The fields, each under its name in the manual (Book I, instruction fields).
 #[rattlefmt::skip]
-mod named {
+pub(crate) mod named {
     use crate::layout::{Field, Piece};
 
     /// A piece that isn't used.
@@ -108,6 +111,16 @@ mod named {
     pub const D_WIDE: Field = Field { low: bits!(16, 31), middle: prefix_bits!(14, 31), high: NO_BITS, shift: 0, signed: true };
     /// R of the prefix, bit 11: whether the address is that of the prefix and D.
     pub const R_WIDE: Field = Field { low: prefix_bits!(11, 11), middle: NO_BITS, high: NO_BITS, shift: 0, signed: false };
+    /// OE: whether overflow is recorded.
+    pub const FLAG_OE: Field = Field { low: bits!(21, 21), middle: NO_BITS, high: NO_BITS, shift: 0, signed: false };
+    /// Rc: whether the result is recorded in field 0 of CR.
+    pub const FLAG_RC: Field = Field { low: bits!(31, 31), middle: NO_BITS, high: NO_BITS, shift: 0, signed: false };
+    /// AA: whether the target is absolute.
+    pub const FLAG_AA: Field = Field { low: bits!(30, 30), middle: NO_BITS, high: NO_BITS, shift: 0, signed: false };
+    /// LK: whether the link register is set.
+    pub const FLAG_LK: Field = Field { low: bits!(31, 31), middle: NO_BITS, high: NO_BITS, shift: 0, signed: false };
+    /// A form that a row doesn't have: no bits, and 0 is the one operand.
+    pub const NO_FLAG: Field = Field { low: NO_BITS, middle: NO_BITS, high: NO_BITS, shift: 0, signed: false };
 }
 
 static D_RT_RA_SI: [Field; 3] = [RT, RA, SI];
@@ -209,6 +222,8 @@ static WIDE_RT_D_RA_R: [Field; 4] = [RT, D_WIDE, RA, R_WIDE];
 /// Where the operands stand in a layout, in their order. There are at most six.
 pub fn fields_of_layout(layout: Layout) -> &'static [Field]
     ensures value { result.now ≡ fields_of layout }
+    ensures readable { IsTrue (list_all is_readable result.now) }
+    ensures few { length result.now ≤ 6 }
 {
     match layout {
         Layout::DRtRaSi => &D_RT_RA_SI,
@@ -260,4 +275,25 @@ pub fn fields_of_layout(layout: Layout) -> &'static [Field]
         Layout::MlsRtRaSiR => &MLS_RT_RA_SI_R,
         Layout::WideRtDRaR => &WIDE_RT_D_RA_R,
     }
+}
+
+/// A field where the row has the form that it chooses, and a field without bits where not.
+fn flag(exists: bool, field: Field) -> Field
+    ensures { result ≡ flag exists field }
+{
+    if exists { field } else { NO_FLAG }
+}
+
+/// Where the forms of a row stand: OE, Rc, AA and LK, each a field of one bit, or of none where the row
+/// lacks that form.
+pub fn flags_of_row(row: &Row) -> [Field; 4]
+    ensures value { result ≡ flags_of (row_of row.now) }
+    ensures readable { IsTrue (list_all is_readable result) }
+{
+    [
+        flag(row.oe, FLAG_OE),
+        flag(row.rc, FLAG_RC),
+        flag(row.absolute, FLAG_AA),
+        flag(row.links, FLAG_LK),
+    ]
 }

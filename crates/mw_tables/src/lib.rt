@@ -3,10 +3,12 @@
 
 mod fields;
 mod layout;
+mod operand;
 mod row;
 mod table;
 
-pub use fields::fields_of_layout;
+pub use fields::{fields_of_layout, flags_of_row};
 pub use layout::{Field, Layout, Piece};
+pub use operand::{is_in_field, read_operand, write_operand};
 pub use row::{PrefixKind, Row, Shape};
 pub use table::{by_name, layout_at, row_at, rows};
