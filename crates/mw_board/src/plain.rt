@@ -1,18 +1,22 @@
-ghost use Rattle.std.specs.Prelude.{◌≡◌, ◌<◌, length, true, is_some};
+ghost use Rattle.std.specs.Prelude.{◌≡◌, ◌<◌, length, true, Some, is_some};
 ghost use Rattle.mw_decode.specs.Decode.{IsInsn, is_prefix};
 ghost use Rattle.mw_isa.specs.Fetch.{fetched_at, suffix_at};
-ghost use Rattle.mw_isa.specs.Execute.{operands_of, operands_by, sources_of, operand_of, content_of, set_targets, set_target};
-ghost use Rattle.mw_isa.specs.Shaped.{IsShaped, IsRegister};
+ghost use Rattle.mw_tables.specs.Rows.{row_count};
+ghost use Rattle.mw_isa.specs.Execute.{operands_of, operands_by, sources_of, storage_sources, stored_place, operand_of, content_of, set_targets, set_target, is_built_row};
+ghost use Rattle.mw_isa.specs.Shaped.{IsPlaced, IsReady, IsRegister};
 ghost use Rattle.mw_isa.specs.State.{seen};
-ghost use Rattle.mw_isa.specs.Step.{after_of, is_built, is_built_outcome, next_of, written};
+ghost use Rattle.mw_isa.specs.Step.{after_of, is_built, is_built_outcome, is_cut, next_of, written};
 ghost use Rattle.mw_isa.specs.Access.{IsSized, OnMemory};
 ghost use Rattle.mw_board.specs.Plain.{Turns};
 
 use crate::access::{access, can_access, real, set_gpr};
 use mw_bus::Ram;
-use mw_decode::{Decoded, Insn, Shape, decode, is_prefix, row_at};
-use mw_exec::exec;
-use mw_isa::{Event, Operands, Outcome, Regs, Slot, State, Target};
+use mw_decode::{Decoded, Insn, decode, is_prefix};
+use mw_exec::{behind, exec};
+use mw_isa::{
+    AdderRow, Address, BranchRow, Event, LogicRow, MemWhat, Operands, Operation, Outcome, Regs, Slot,
+    State, Target, operation_at,
+};
 
 /// A word, with the one behind it where it is a prefix.
 #[derive(Clone, Copy)]
@@ -72,25 +76,75 @@ fn with_special(a: u64, b: u64, c: u64, regs: &Regs) -> Operands
     }
 }
 
-/// What an instruction of this operand list reads.
-fn read_operands(shape: Shape, insn: &Insn, regs: &Regs) -> Operands
-    requires { IsShaped shape insn.now }
-    ensures { result ≡ operands_by (sources_of shape) insn.now regs.now }
+/// What a row that adds reads.
+fn adder_operands(row: AdderRow, insn: &Insn, regs: &Regs) -> Operands
+    requires { IsReady (Operation.Adder row) insn.now }
+    ensures { result ≡ operands_by (sources_of (Operation.Adder row)) insn.now regs.now }
 {
-    match shape {
-        Shape::RtRaSi => with_special(content(insn, 1, regs), 0, 0, regs),
-        Shape::RaRsUi => with_special(content(insn, 1, regs), 0, 0, regs),
-        Shape::Target => with_special(0, 0, 0, regs),
-        Shape::RtRaRb => with_special(content(insn, 1, regs), content(insn, 2, regs), 0, regs),
-        Shape::RtDRa => with_special(content(insn, 2, regs), 0, 0, regs),
-        Shape::RsDRa => with_special(content(insn, 2, regs), 0, content(insn, 0, regs), regs),
-        Shape::RsRaRb => with_special(
-            content(insn, 1, regs),
+    match row {
+        AdderRow::Addi => with_special(content(insn, 1, regs), 0, 0, regs),
+        AdderRow::Addis => with_special(content(insn, 1, regs), 0, 0, regs),
+        AdderRow::Add => with_special(content(insn, 1, regs), content(insn, 2, regs), 0, regs),
+        AdderRow::Paddi => with_special(content(insn, 1, regs), 0, 0, regs),
+    }
+}
+
+/// The content that an access stores, or 0.
+fn stored_content(what: MemWhat, insn: &Insn, regs: &Regs) -> u64
+    requires some { 0 < length insn.now.ops.items }
+    requires register { IsRegister insn.now 0 }
+    ensures { result ≡ content_of insn.now regs.now (stored_place what) }
+{
+    match what {
+        MemWhat::Load { .. } => 0,
+        MemWhat::Store { .. } => content(insn, 0, regs),
+        MemWhat::Conditional { .. } => content(insn, 0, regs),
+        MemWhat::Zero => 0,
+        MemWhat::Clean => 0,
+        MemWhat::Icbi => 0,
+    }
+}
+
+/// What an access reads.
+fn storage_operands(address: Address, what: MemWhat, insn: &Insn, regs: &Regs) -> Operands
+    requires { IsPlaced address insn.now }
+    ensures { result ≡ operands_by (storage_sources address what) insn.now regs.now }
+{
+    match address {
+        Address::Displaced => with_special(
             content(insn, 2, regs),
-            content(insn, 0, regs),
+            0,
+            stored_content(what, insn, regs),
             regs,
         ),
-        Shape::RaRb => with_special(content(insn, 0, regs), content(insn, 1, regs), 0, regs),
+        Address::Indexed => with_special(
+            content(insn, 1, regs),
+            content(insn, 2, regs),
+            stored_content(what, insn, regs),
+            regs,
+        ),
+        Address::Block => with_special(content(insn, 0, regs), content(insn, 1, regs), 0, regs),
+        Address::Prefixed => with_special(
+            content(insn, 2, regs),
+            0,
+            stored_content(what, insn, regs),
+            regs,
+        ),
+    }
+}
+
+/// What an operation reads.
+fn read_operands(operation: Operation, insn: &Insn, regs: &Regs) -> Operands
+    requires { IsReady operation insn.now }
+    ensures { result ≡ operands_by (sources_of operation) insn.now regs.now }
+{
+    match operation {
+        Operation::Adder(row) => adder_operands(row, insn, regs),
+        Operation::Logic(LogicRow::Ori) => with_special(content(insn, 1, regs), 0, 0, regs),
+        Operation::Branch(BranchRow::B) => with_special(0, 0, 0, regs),
+        Operation::Storage(row) => storage_operands(row.address, row.what, insn, regs),
+        Operation::Hint => with_special(0, 0, 0, regs),
+        Operation::Later => with_special(0, 0, 0, regs),
     }
 }
 
@@ -100,7 +154,7 @@ fn operands(insn: &Insn, regs: &Regs) -> Operands
     requires { IsInsn insn.now }
     ensures { result ≡ operands_of insn.now regs.now }
 {
-    read_operands(row_at(insn.row).shape, insn, regs)
+    read_operands(operation_at(insn.row), insn, regs)
 }
 
 /// Writes a register with its value, if that is known.
@@ -137,24 +191,26 @@ fn write_outcome(state: &mut State, outcome: &Outcome)
 }
 
 /// The address of the next instruction.
-fn next(outcome: &Outcome, cia: u64) -> u64
-    ensures { result ≡ next_of outcome.now cia }
+fn next(insn: &Insn, outcome: &Outcome, cia: u64) -> u64
+    requires { insn.now.row < row_count }
+    ensures { result ≡ next_of insn.now outcome.now cia }
 {
     match outcome {
         Outcome::Done { next, .. } => *next,
-        Outcome::Memory(_) => cia.wrapping_add(4),
+        Outcome::Memory(_) => behind(insn, cia),
     }
 }
 
 /// Leaves the state behind an instruction at an address.
-fn retire(state: &mut State, cia: u64, outcome: &Outcome)
+fn retire(state: &mut State, cia: u64, insn: &Insn, outcome: &Outcome)
+    requires row { insn.now.row < row_count }
     requires sized { OnMemory IsSized outcome.now }
     requires built { is_built_outcome (Some outcome.now) ≡ true }
-    ensures value { seen state.new ≡ after_of (Some outcome.now) cia (seen state.old) }
+    ensures value { seen state.new ≡ after_of (Some insn.now) (Some outcome.now) cia (seen state.old) }
     ensures room { state.new.devices.room ≡ state.old.devices.room }
 {
     write_outcome(state, outcome);
-    state.regs.cia = next(outcome, cia);
+    state.regs.cia = next(insn, outcome, cia);
 }
 
 /// Whether an outcome is built.
@@ -168,11 +224,34 @@ fn has_built_outcome(outcome: &Outcome) -> bool
     }
 }
 
-/// Whether an instruction's form is built: OE, Rc and LK are 0.
+/// Whether an instruction's row is built.
+fn has_built_row(insn: &Insn) -> bool
+    requires { insn.now.row < row_count }
+    ensures { result ≡ is_built_row insn.now }
+{
+    match operation_at(insn.row) {
+        Operation::Adder(_) => true,
+        Operation::Logic(_) => true,
+        Operation::Branch(_) => true,
+        Operation::Storage(_) => true,
+        Operation::Hint => true,
+        Operation::Later => false,
+    }
+}
+
+/// Whether an instruction is built: its row is, and OE, Rc and LK are 0.
 fn has_built_form(insn: &Insn) -> bool
+    requires { insn.now.row < row_count }
     ensures { result ≡ is_built (Decoded.Insn insn.now) }
 {
-    !insn.oe && !insn.rc && !insn.lk
+    has_built_row(insn) && !insn.oe && !insn.rc && !insn.lk
+}
+
+/// Whether a word is a prefix at the end of a block of 64 bytes.
+fn is_cut_off(word: u32, cia: u64) -> bool
+    ensures { result ≡ is_cut word cia }
+{
+    is_prefix(word) && cia % 64 == 60
 }
 
 /// Carries out the next instruction at the devices' cycle, if it is built.
@@ -182,8 +261,13 @@ pub fn turn(state: &mut State) -> Option<Event>
 {
     let cia = state.regs.cia;
     let words = fetch(&state.ram, cia);
+    if is_cut_off(words.word, cia) {
+        return None;
+    }
     let insn = match decode(words.word, words.suffix) {
         Decoded::Insn(insn) => insn,
+        Decoded::Unavailable(_) => return None,
+        Decoded::Alignment { .. } => return None,
         Decoded::Illegal => return None,
     };
     if !has_built_form(&insn) {
@@ -193,7 +277,7 @@ pub fn turn(state: &mut State) -> Option<Event>
     if !has_built_outcome(&outcome) {
         return None;
     }
-    retire(state, cia, &outcome);
+    retire(state, cia, &insn, &outcome);
     Some(Event::Retire {
         cycle: state.devices.cycle(),
         cia,

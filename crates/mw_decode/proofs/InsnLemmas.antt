@@ -1,71 +1,64 @@
 -- What decoding gives is an instruction of the table: its row has its forms, its operands are in range, and they are no illegal form.
-use Rattle.std.proofs.Common.{◌≡◌, ℕ, ◌+◌, ◌-◌, ◌<◌, ◌^◌, List, [], ◌∷◌, ◌++◌, Option, Some, None, false, length, get_or, ℤ, pos, refl, subst, arith, append_assoc, length-append, slice_get}
+use Rattle.std.proofs.Common.{rules, ◌≡◌, ℕ, Option, Some, None, false, refl, subst, slice_get}
 use Rattle.std.proofs.lemmas.Bool.{and_parts, cond_both}
-use Rattle.std.proofs.lemmas.List.{length-map}
-use Rattle.mw_bits.proofs.FieldLemmas.{field-lt}
-use Rattle.mw_decode.specs.declared.layout.Field.{Field}
-use Rattle.mw_decode.specs.declared.layout.Layout.{Layout}
+use Rattle.mw_tables.specs.declared.layout.Layout.{Layout}
+use Rattle.mw_tables.specs.Row.{TableRow}
+use Rattle.mw_tables.specs.Rows.{table, layouts}
+use Rattle.mw_tables.specs.Layouts.{fields_of, operands_in}
+use Rattle.mw_tables.proofs.FieldLaws.{operands_in-HasOperands}
 use Rattle.mw_decode.specs.declared.insn.Insn.{Insn}
 use Rattle.mw_decode.specs.declared.insn.Decoded.{Decoded}
-use Rattle.mw_decode.specs.declared.insn.Decoded.TheVariants.{Insn as Is, Illegal}
-use Rattle.mw_decode.specs.Row.{TableRow}
-use Rattle.mw_decode.specs.Rows.{table}
-use Rattle.mw_decode.specs.Fields.{layouts, fields_of, width_of, operand_from, bits_in, operands_in, EachInRange, HasOperands}
+use Rattle.mw_decode.specs.declared.insn.Decoded.TheVariants.{Insn as Is}
 use Rattle.mw_decode.specs.Rules.{is_illegal_form}
-use Rattle.mw_decode.specs.Decode.{IsInsn, OnInsn, unless_illegal, insn_of, decoded_by, decoded_at, decode_of, row_place}
+use Rattle.mw_decode.specs.Unavailable.{without_row, without_row_prefixed}
+use Rattle.mw_decode.specs.Decode.{IsInsn, OnInsn, code_of, place_of, if_legal, insn_of, insn_by, insn_at, insn_or, otherwise, decode_of}
 
--- the bits of a field are below its limit
-pub bits_in-lt : (word : ℕ) (f : Field) → bits_in word f < 2 ^ width_of f
-bits_in-lt word f =
-    let same : 32 + f.last - (32 + f.first) + 1 ≡ width_of f = omega arith in
-    subst (λ n. bits_in word f < 2 ^ n) same (field-lt word (32 + f.first) (32 + f.last))
+-- a fact on the instruction, where there is one
+abbrev OnSome : (Insn → Type 0) → Option Insn → Type 0
+OnSome P None = Unit {0}
+OnSome P (Some insn) = P insn
 
-at_end : (before after : List ℤ) (x d : ℤ) → get_or (before ++ x ∷ after) (length before) d ≡ x
-at_end [] after x d = refl
-at_end (y ∷ ys) after x d = at_end ys after x d
-
--- the operands that stand behind others are in the range of their fields
-operands_in-EachInRange : (word : ℕ) (before : List ℤ) (fs : List Field) → EachInRange (length before) fs (before ++ operands_in word fs)
-operands_in-EachInRange word before [] = tt
-operands_in-EachInRange word before (f ∷ fs) =
-    let x : ℤ = operand_from f (bits_in word f) in
-    let more : length (before ++ x ∷ []) ≡ length before + 1 = omega (arith, length-append before (x ∷ [])) in
-    let rest = operands_in-EachInRange word (before ++ x ∷ []) fs in
-    let moved = subst (λ n. EachInRange n fs ((before ++ x ∷ []) ++ operands_in word fs)) more rest in (
-      (bits_in word f, bits_in-lt word f, at_end before (operands_in word fs) x (pos 0)),
-      subst (λ zs. EachInRange (length before + 1) fs zs) (append_assoc before (x ∷ []) (operands_in word fs)) moved,
-    )
-
--- the operands of a word are in the range of their fields
-pub operands_in-HasOperands : (word : ℕ) (fs : List Field) → HasOperands fs (operands_in word fs)
-operands_in-HasOperands word fs = (length-map fs _, operands_in-EachInRange word [] fs)
-
-insn_of-IsInsn : (word place : ℕ) (row : TableRow) (layout : Layout) → slice_get table place ≡ Some row → slice_get layouts place ≡ Some layout → is_illegal_form place (operands_in word (fields_of layout)) ≡ false → IsInsn (insn_of word place row layout)
-insn_of-IsInsn word place row layout r l allowed = record {
+insn_of-IsInsn : (code place : ℕ) (row : TableRow) (layout : Layout) → slice_get table place ≡ Some row → slice_get layouts place ≡ Some layout → is_illegal_form place (operands_in code (fields_of layout)) ≡ false → IsInsn (insn_of code place row layout)
+insn_of-IsInsn code place row layout r l allowed = record {
   forms = rw r ((λ e. (and_parts _ _ e).0), (λ e. (and_parts _ _ e).0), (λ e. (and_parts _ _ e).0), (λ e. (and_parts _ _ e).0));
-  operands = rw l (operands_in-HasOperands word (fields_of layout));
+  operands = rw l (operands_in-HasOperands code (fields_of layout));
   legal = allowed;
 }
 
 -- an instruction that is no illegal form is left
-unless_illegal-IsInsn : (insn : Insn) → (is_illegal_form insn.row insn.ops.items ≡ false → IsInsn insn) → OnInsn IsInsn (unless_illegal insn)
-unless_illegal-IsInsn insn is = cond_both (is_illegal_form insn.row insn.ops.items) Illegal (Is insn) (λ (d : Decoded). OnInsn IsInsn d) (λ _. tt) (λ allowed. is allowed)
+if_legal-IsInsn : (insn : Insn) → (is_illegal_form insn.row insn.ops.items ≡ false → IsInsn insn) → OnSome IsInsn (if_legal insn)
+if_legal-IsInsn insn is = cond_both (is_illegal_form insn.row insn.ops.items) None (Some insn) (λ (o : Option Insn). OnSome IsInsn o) (λ _. tt) (λ allowed. is allowed)
 
-decoded_by-IsInsn : (word place : ℕ) (row : Option TableRow) (layout : Option Layout) → slice_get table place ≡ row → slice_get layouts place ≡ layout → OnInsn IsInsn (decoded_by word place row layout)
-decoded_by-IsInsn word place (Some row) (Some layout) r l = unless_illegal-IsInsn (insn_of word place row layout) (λ allowed. insn_of-IsInsn word place row layout r l allowed)
-decoded_by-IsInsn word place (Some row) None r l = tt
-decoded_by-IsInsn word place None (Some layout) r l = tt
-decoded_by-IsInsn word place None None r l = tt
+insn_by-IsInsn : (code place : ℕ) (row : Option TableRow) (layout : Option Layout) → slice_get table place ≡ row → slice_get layouts place ≡ layout → OnSome IsInsn (insn_by code place row layout)
+insn_by-IsInsn code place (Some row) (Some layout) r l = if_legal-IsInsn (insn_of code place row layout) (λ allowed. insn_of-IsInsn code place row layout r l allowed)
+insn_by-IsInsn code place (Some row) None r l = tt
+insn_by-IsInsn code place None (Some layout) r l = tt
+insn_by-IsInsn code place None None r l = tt
 
-decoded_at-IsInsn : (word : ℕ) (place : Option ℕ) → OnInsn IsInsn (decoded_at word place)
-decoded_at-IsInsn word None = tt
-decoded_at-IsInsn word (Some place) = decoded_by-IsInsn word place (slice_get table place) (slice_get layouts place) refl refl
+insn_at-IsInsn : (code : ℕ) (place : Option ℕ) → OnSome IsInsn (insn_at code place)
+insn_at-IsInsn code None = tt
+insn_at-IsInsn code (Some place) = insn_by-IsInsn code place (slice_get table place) (slice_get layouts place) refl refl
+
+-- what a word is else is no instruction
+without_row-OnInsn : (word : ℕ) → OnInsn IsInsn (without_row word)
+without_row-OnInsn word = search rules
+
+without_row_prefixed-OnInsn : (prefix suffix : ℕ) → OnInsn IsInsn (without_row_prefixed prefix suffix)
+without_row_prefixed-OnInsn prefix suffix = search rules
+
+otherwise-OnInsn : (word : ℕ) (suffix : Option ℕ) → OnInsn IsInsn (otherwise word suffix)
+otherwise-OnInsn word None = without_row-OnInsn word
+otherwise-OnInsn word (Some suffix) = without_row_prefixed-OnInsn word suffix
+
+insn_or-OnInsn : (insn : Option Insn) (other : Decoded) → OnSome IsInsn insn → OnInsn IsInsn other → OnInsn IsInsn (insn_or insn other)
+insn_or-OnInsn (Some insn) other is _ = is
+insn_or-OnInsn None other _ is = is
 
 -- what decoding gives is an instruction of the table
 pub decode_of-IsInsn : (word : ℕ) (suffix : Option ℕ) → OnInsn IsInsn (decode_of word suffix)
 unfolding decode_of
-decode_of-IsInsn word None = decoded_at-IsInsn word (row_place word)
-decode_of-IsInsn word (Some suffix) = tt
+decode_of-IsInsn word suffix =
+    insn_or-OnInsn (insn_at (code_of word suffix) (place_of word suffix)) (otherwise word suffix) (insn_at-IsInsn (code_of word suffix) (place_of word suffix)) (otherwise-OnInsn word suffix)
 
 -- so is an instruction that a word is known to be
 pub decode_of-Is : (word : ℕ) (suffix : Option ℕ) (insn : Insn) → decode_of word suffix ≡ Is insn → IsInsn insn

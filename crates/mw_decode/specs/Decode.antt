@@ -1,62 +1,90 @@
--- What a word is: the row that matches, with its operands, unless they are an illegal form (Book I, instruction formats).
-use Rattle.std.specs.Prelude.{ℕ, ◌+◌, ◌≡◌, ◌==◌, Bool, true, false, ◌&&◌, if◌then◌else◌, Option, Some, None, IsSomeAnd, slice_get}
-use Rattle.std.specs.List.{position_from}
-use Rattle.mw_bits.specs.Fields.{field_of}
-use Rattle.mw_decode.specs.declared.layout.Layout.{Layout}
+-- What a word, or a prefix with its suffix, is: the row that matches, with its operands, unless they are an illegal form (Book I, instruction formats).
+use Rattle.std.specs.Prelude.{ℕ, ◌+◌, ◌-◌, ◌*◌, ◌/◌, ◌%◌, ◌^◌, ◌≡◌, ◌==◌, Bool, true, false, ◌&&◌, if◌then◌else◌, Option, Some, None, IsSomeAnd, slice_get, Result, Ok, Err}
+use Rattle.mw_prefix.specs.declared.wide.Wide.{Wide}
+use Rattle.mw_prefix.specs.declared.wide.Wide.TheVariants.{Mls as MlsForm, Eight as EightForm, Nop as NopForm}
+use Rattle.mw_prefix.specs.declared.wide.NotWide.{NotWide}
+use Rattle.mw_prefix.specs.Wide.{split_of}
+use Rattle.mw_tables.specs.declared.row.PrefixKind.{PrefixKind}
+use Rattle.mw_tables.specs.declared.row.PrefixKind.TheVariants.{Plain, Mls, Eight, Nop}
+use Rattle.mw_tables.specs.declared.layout.Layout.{Layout}
+use Rattle.mw_tables.specs.Row.{TableRow}
+use Rattle.mw_tables.specs.Rows.{table, layouts}
+use Rattle.mw_tables.specs.Matching.{row_place}
+use Rattle.mw_tables.specs.Layouts.{fields_of, operands_in, HasOperands}
 use Rattle.mw_decode.specs.declared.insn.Insn.{Insn}
 use Rattle.mw_decode.specs.declared.insn.Decoded.{Decoded}
-use Rattle.mw_decode.specs.declared.insn.Decoded.TheVariants.{Insn as Is, Illegal}
-use Rattle.mw_decode.specs.Row.{TableRow, matches}
-use Rattle.mw_decode.specs.Rows.{table}
-use Rattle.mw_decode.specs.Fields.{fields_of, layouts, operands_in, HasOperands}
+use Rattle.mw_decode.specs.declared.insn.Decoded.TheVariants.{Insn as Is, Unavailable, Alignment, Illegal}
 use Rattle.mw_decode.specs.Rules.{is_illegal_form}
-
--- the primary opcode of a word
-abbrev pub opcode_of : ℕ → ℕ
-opcode_of word = field_of word 32 37
+use Rattle.mw_decode.specs.Unavailable.{opcode_of, without_row, without_row_prefixed}
 
 -- the word is a prefix: it has a suffix behind it
 abbrev pub is_prefix : ℕ → Bool
 is_prefix word = opcode_of word == 1
 
--- a bit of a word, numbered from the left of its 32
+-- the code of an instruction: its word, or its prefix and behind it its suffix
+abbrev pub code_of : ℕ → Option ℕ → ℕ
+code_of word None = word
+code_of word (Some suffix) = word * 2 ^ 32 + suffix
+
+-- a bit of the word, or of the suffix, numbered from the left of its 32
 abbrev pub is_set : ℕ → ℕ → Bool
-is_set word bit = field_of word (32 + bit) (32 + bit) == 1
+is_set code bit = code / 2 ^ (31 - bit) % 2 == 1
 
--- the place in the table of the row that matches a word
-unfoldable pub row_place : ℕ → Option ℕ
-row_place word = position_from (λ row. matches row word) 0 table
+-- the kind of a prefixed form
+abbrev pub kind_of : Wide → PrefixKind
+kind_of (MlsForm pcrel disp suffix) = Mls
+kind_of (EightForm pcrel disp suffix) = Eight
+kind_of (NopForm suffix) = Nop
 
--- a word as an instruction of this row and layout
+-- the place of the row that matches a suffix behind a prefix of this form
+abbrev pub place_behind : Result Wide NotWide → ℕ → Option ℕ
+place_behind (Ok wide) suffix = row_place (kind_of wide) suffix
+place_behind (Err none) suffix = None
+
+-- the place in the table of the row that matches
+abbrev pub place_of : ℕ → Option ℕ → Option ℕ
+place_of word None = row_place Plain word
+place_of word (Some suffix) = place_behind (split_of word suffix) suffix
+
+-- a code as an instruction of this row and layout
 abbrev pub insn_of : ℕ → ℕ → TableRow → Layout → Insn
-insn_of word place row layout = record {
+insn_of code place row layout = record {
   row = place;
-  ops = record { items = operands_in word (fields_of layout) };
-  oe = row.oe && is_set word 21;
-  rc = row.rc && is_set word 31;
-  aa = row.absolute && is_set word 30;
-  lk = row.links && is_set word 31;
+  ops = record { items = operands_in code (fields_of layout) };
+  oe = row.oe && is_set code 21;
+  rc = row.rc && is_set code 31;
+  aa = row.absolute && is_set code 30;
+  lk = row.links && is_set code 31;
 }
 
--- an instruction, but illegal where its row has no such form
-abbrev pub unless_illegal : Insn → Decoded
-unless_illegal insn = if is_illegal_form insn.row insn.ops.items then Illegal else Is insn
+-- the instruction, where its operands are no illegal form
+abbrev pub if_legal : Insn → Option Insn
+if_legal insn = if is_illegal_form insn.row insn.ops.items then None else Some insn
 
--- the instruction at this place of the table; the cases without a row are never met
-abbrev pub decoded_by : ℕ → ℕ → Option TableRow → Option Layout → Decoded
-decoded_by word place (Some row) (Some layout) = unless_illegal (insn_of word place row layout)
-decoded_by word place (Some row) None = Illegal
-decoded_by word place None layout = Illegal
+-- the instruction of a row and its layout; the cases without them are never met
+abbrev pub insn_by : ℕ → ℕ → Option TableRow → Option Layout → Option Insn
+insn_by code place (Some row) (Some layout) = if_legal (insn_of code place row layout)
+insn_by code place (Some row) None = None
+insn_by code place None layout = None
 
--- the instruction of the row that matches, illegal where none does
-abbrev pub decoded_at : ℕ → Option ℕ → Decoded
-decoded_at word None = Illegal
-decoded_at word (Some place) = decoded_by word place (slice_get table place) (slice_get layouts place)
+-- the instruction at a place of the table
+abbrev pub insn_at : ℕ → Option ℕ → Option Insn
+insn_at code None = None
+insn_at code (Some place) = insn_by code place (slice_get table place) (slice_get layouts place)
 
--- what a word is, with its suffix where it is a prefix; no prefixed row is in the table yet
+-- what a word is where it isn't an instruction
+abbrev pub otherwise : ℕ → Option ℕ → Decoded
+otherwise word None = without_row word
+otherwise word (Some suffix) = without_row_prefixed word suffix
+
+-- an instruction, or what it is else
+abbrev pub insn_or : Option Insn → Decoded → Decoded
+insn_or (Some insn) other = Is insn
+insn_or None other = other
+
+-- what a word is, with its suffix where it is a prefix
 unfoldable pub decode_of : ℕ → Option ℕ → Decoded
-decode_of word None = decoded_at word (row_place word)
-decode_of word (Some suffix) = Illegal
+decode_of word suffix = insn_or (insn_at (code_of word suffix) (place_of word suffix)) (otherwise word suffix)
 
 -- a form is there only where the row has it
 abbrev pub HasForms : TableRow → Insn → Type 0
@@ -71,4 +99,6 @@ pub record IsInsn (insn : Insn) : Type 0 where
 -- a fact on the instruction, where a word is one
 abbrev pub OnInsn : (Insn → Type 0) → Decoded → Type 0
 OnInsn P (Is insn) = P insn
+OnInsn P (Unavailable facility) = Unit {0}
+OnInsn P (Alignment ra rb disp) = Unit {0}
 OnInsn P Illegal = Unit {0}

@@ -1,7 +1,6 @@
--- In reading order: a row of the table, the rows, where operands stand, which operands are illegal, what a word is, how the decoder finds a row.
-pub mod Row
-pub mod Rows
-pub mod Fields
+-- In reading order: which operands are illegal, the words that aren't carried out, what a word is, the code of an instruction, how the decoder finds a row.
 pub mod Rules
+pub mod Unavailable
 pub mod Decode
+pub mod Encode
 pub mod Groups

@@ -17,11 +17,42 @@ pub struct Insn {
     pub lk: bool,
 }
 
-/// What a word is.
+/// A facility that the machine doesn't have (Book III, unavailable interrupts).
+#[derive(Clone, Copy, Debug, PartialEq, Eq)]
+pub enum Facility {
+    /// Floating point.
+    Fp,
+    /// Vector.
+    Vector,
+    /// Vector-scalar.
+    Vsx,
+}
+
+/// What a word, or a prefix with its suffix, is.
 #[derive(Debug, PartialEq, Eq, Drop)]
 pub enum Decoded {
     /// An instruction of the table.
     Insn(Insn),
-    /// No row of the table matches, or the row that does forbids the operands.
+    /// A word of a facility that isn't there.
+    Unavailable(Facility),
+    /// An access that raises an alignment interrupt, at RA|0, RB where there is one, and `disp`.
+    Alignment {
+        /// The field RA: a register, where 0 stands for the number 0.
+        ra: u8,
+        /// The field RB, of the moves of strings whose length stands in XER.
+        rb: Option<u8>,
+        /// The displacement in bytes, of load and store multiple, and else 0.
+        disp: i64,
+    },
+    /// Anything else, and an illegal form of a row.
     Illegal,
+}
+
+/// The word of an instruction, or its prefix and its suffix.
+#[derive(Clone, Copy, Debug, PartialEq, Eq)]
+pub struct Code {
+    /// The word, or the prefix.
+    pub word: u32,
+    /// The suffix, exactly where the primary opcode of `word` is 1.
+    pub suffix: Option<u32>,
 }

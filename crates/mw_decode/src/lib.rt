@@ -1,19 +1,15 @@
-//! What a word is: the table of instructions as data, and its decoder.
+//! What a word is, and which word an instruction has.
 #![tactic(auto)]
 
 mod decoder;
-mod fields;
 mod groups;
 mod insn;
-mod layout;
-mod operands;
-mod row;
 mod rule;
-mod table;
+#[cfg(test)]
+mod tests;
+mod unavailable;
+mod word;
 
 pub use decoder::{decode, is_prefix};
-pub use insn::{Decoded, Insn};
-pub use layout::{Field, Layout};
-pub use row::{PrefixKind, Row, Shape};
-pub use rule::is_illegal_form;
-pub use table::{row_at, rows};
+pub use insn::{Code, Decoded, Facility, Insn};
+pub use rule::{Rule, is_illegal_form};

@@ -1,14 +1,16 @@
-ghost use Rattle.std.specs.Prelude.{◌≡◌};
+ghost use Rattle.std.specs.Prelude.{◌≡◌, ◌<◌};
 ghost use Rattle.mw_isa.specs.Execute.{adder_of};
-ghost use Rattle.mw_isa.specs.Shaped.{WritesFirst};
+ghost use Rattle.mw_isa.specs.Shaped.{IsReady};
+ghost use Rattle.mw_tables.specs.Rows.{row_count};
 
-use crate::operand::{operand, plain, unless_zero};
+use crate::operand::{operand, own_or_base, plain, unless_zero};
 use mw_decode::Insn;
-use mw_isa::{AdderRow, Operands, Outcome};
+use mw_isa::{AdderRow, Operands, Operation, Outcome};
 
 /// What the rows that add come to (Book I, fixed-point arithmetic instructions). Sums wrap at 2^64.
 pub fn add(row: AdderRow, insn: &Insn, operands: &Operands, cia: u64) -> Outcome
-    requires { WritesFirst insn.now }
+    requires row { insn.now.row < row_count }
+    requires ready { IsReady (Operation.Adder row) insn.now }
     ensures { result ≡ adder_of row insn.now operands.now cia }
 {
     match row {
@@ -23,5 +25,10 @@ pub fn add(row: AdderRow, insn: &Insn, operands: &Operands, cia: u64) -> Outcome
             cia,
         ),
         AdderRow::Add => plain(insn, operands.a.wrapping_add(operands.b), cia),
+        AdderRow::Paddi => plain(
+            insn,
+            own_or_base(insn, 1, operands.a, cia).wrapping_add(operand(insn, 2)),
+            cia,
+        ),
     }
 }

@@ -1,14 +1,16 @@
-ghost use Rattle.std.specs.Prelude.{◌≡◌};
+ghost use Rattle.std.specs.Prelude.{◌≡◌, ◌<◌};
 ghost use Rattle.mw_isa.specs.Execute.{logic_of};
-ghost use Rattle.mw_isa.specs.Shaped.{WritesFirst};
+ghost use Rattle.mw_isa.specs.Shaped.{IsReady};
+ghost use Rattle.mw_tables.specs.Rows.{row_count};
 
 use crate::operand::{operand, plain};
 use mw_decode::Insn;
-use mw_isa::{LogicRow, Operands, Outcome};
+use mw_isa::{LogicRow, Operands, Operation, Outcome};
 
 /// What the rows that work on single bits come to (Book I, fixed-point logical instructions).
 pub fn combine(row: LogicRow, insn: &Insn, operands: &Operands, cia: u64) -> Outcome
-    requires { WritesFirst insn.now }
+    requires row { insn.now.row < row_count }
+    requires ready { IsReady (Operation.Logic row) insn.now }
     ensures { result ≡ logic_of row insn.now operands.now cia }
 {
     match row {

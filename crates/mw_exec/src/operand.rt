@@ -1,10 +1,12 @@
 ghost use Rattle.std.specs.Prelude.{◌≡◌, ◌<◌, length};
-ghost use Rattle.mw_isa.specs.Execute.{operand_of, or_zero, plain_of, branch_to};
-ghost use Rattle.mw_isa.specs.Shaped.{IsRegister, WritesFirst};
+ghost use Rattle.mw_tables.specs.Rows.{row_count};
+ghost use Rattle.mw_isa.specs.Execute.{operand_of, or_zero, base_or_own, behind_insn, plain_of, branch_to};
+ghost use Rattle.mw_isa.specs.Shaped.{IsRegister};
 
 use arrayvec::ArrayVec;
 use mw_decode::Insn;
 use mw_isa::{Outcome, Slot, Target};
+use mw_tables::{PrefixKind, row_at};
 
 /// The operand at a place, counted from 0: a register's number, or a number in 64 bits, where a signed
 /// one is extended.
@@ -28,9 +30,38 @@ pub fn unless_zero(insn: &Insn, place: usize, content: u64) -> u64
     }
 }
 
-/// One register is written, and the next word follows.
+/// What the address of a prefixed row counts from: its own address where R, the operand at place 3, is
+/// 1, and else the content that was read for RA, or 0 where RA is register 0.
+pub fn own_or_base(insn: &Insn, place: usize, content: u64, cia: u64) -> u64
+    requires there { place < length insn.now.ops.items }
+    requires four { length insn.now.ops.items ≡ 4 }
+    ensures { result ≡ base_or_own insn.now place content cia }
+{
+    if operand(insn, 3) == 1 {
+        cia
+    } else {
+        unless_zero(insn, place, content)
+    }
+}
+
+/// The address behind an instruction: 4 bytes on, or 8 where it has a prefix.
+pub fn behind(insn: &Insn, cia: u64) -> u64
+    requires { insn.now.row < row_count }
+    ensures { result ≡ behind_insn insn.now cia }
+{
+    match row_at(insn.row).prefix {
+        PrefixKind::Plain => cia.wrapping_add(4),
+        PrefixKind::Mls => cia.wrapping_add(4).wrapping_add(4),
+        PrefixKind::Eight => cia.wrapping_add(4).wrapping_add(4),
+        PrefixKind::Nop => cia.wrapping_add(4).wrapping_add(4),
+    }
+}
+
+/// One register is written, and the instruction behind follows.
 pub fn plain(insn: &Insn, value: u64, cia: u64) -> Outcome
-    requires { WritesFirst insn.now }
+    requires row { insn.now.row < row_count }
+    requires some { 0 < length insn.now.ops.items }
+    requires register { IsRegister insn.now 0 }
     ensures { result ≡ plain_of insn.now value cia }
 {
     let mut targets = ArrayVec::new();
@@ -40,7 +71,7 @@ pub fn plain(insn: &Insn, value: u64, cia: u64) -> Outcome
     });
     Outcome::Done {
         targets,
-        next: cia.wrapping_add(4),
+        next: behind(insn, cia),
     }
 }
 

@@ -1,19 +1,20 @@
-ghost use Rattle.std.specs.Prelude.{◌≡◌};
+ghost use Rattle.std.specs.Prelude.{◌≡◌, true, Some};
 ghost use Rattle.mw_decode.specs.Decode.{IsInsn};
 ghost use Rattle.mw_isa.specs.Access.{IsSized, OnMemory};
-ghost use Rattle.mw_isa.specs.Execute.{exec_of};
+ghost use Rattle.mw_isa.specs.Execute.{exec_of, is_built_row};
 
-use crate::operand::branch_without_link;
+use crate::operand::{behind, branch_without_link};
 use crate::{adder, branching, logic, storage};
 use mw_decode::Insn;
 use mw_isa::{Operands, Operation, Outcome, operation_at};
 
 /// What an instruction at the effective address `cia` comes to, from the registers that it reads: what
-/// it writes, and the address of the next one (Book I). OE, Rc and LK aren't looked at: the forms that
-/// have them are for the caller to refuse.
+/// it writes, and the address of the next one (Book I). Its row has to be built. OE, Rc and LK aren't
+/// looked at: the forms that have them are for the caller to refuse.
 #[tactic(auto, unfolding(mw_isa::specs::Execute::exec_of))]
 pub fn exec(insn: &Insn, operands: &Operands, cia: u64) -> Outcome
-    requires { IsInsn insn.now }
+    requires insn { IsInsn insn.now }
+    requires built { is_built_row insn.now ≡ true }
     ensures outcome { exec_of insn.now operands.now cia ≡ Some result }
     ensures sized { OnMemory IsSized result }
 {
@@ -21,7 +22,8 @@ pub fn exec(insn: &Insn, operands: &Operands, cia: u64) -> Outcome
         Operation::Adder(row) => adder::add(row, insn, operands, cia),
         Operation::Logic(row) => logic::combine(row, insn, operands, cia),
         Operation::Branch(row) => branching::branch(row, insn, operands, cia),
-        Operation::Storage(row) => storage::access(row, insn, operands),
-        Operation::Hint => branch_without_link(cia.wrapping_add(4)),
+        Operation::Storage(row) => storage::access(row, insn, operands, cia),
+        Operation::Hint => branch_without_link(behind(insn, cia)),
+        Operation::Later => unreachable!(),
     }
 }

@@ -4,7 +4,7 @@ use Rattle.std.proofs.lemmas.Bool.Decides.{nat_tests}
 use Rattle.mw_isa.specs.declared.memory.MemWhat.{MemWhat}
 use Rattle.mw_isa.specs.declared.memory.MemWhat.TheVariants.{Load, Store, Conditional, Zero, Clean, Icbi}
 use Rattle.mw_isa.specs.declared.operation.Operation.{Operation}
-use Rattle.mw_isa.specs.declared.operation.Operation.TheVariants.{Adder, Logic, Branch, Storage, Hint}
+use Rattle.mw_isa.specs.declared.operation.Operation.TheVariants.{Adder, Logic, Branch, Storage, Hint, Later}
 use Rattle.mw_isa.specs.declared.operation.StorageRow.{StorageRow}
 use Rattle.mw_isa.specs.Operations.{operations}
 use Rattle.mw_isa.specs.Access.{is_sized_by}
@@ -16,6 +16,7 @@ sized_operation (Logic row) = true
 sized_operation (Branch row) = true
 sized_operation (Storage row) = is_sized_by row.what row.len
 sized_operation Hint = true
+sized_operation Later = true
 
 -- so it is of each operation
 abbrev all_sized : List Operation → Bool

@@ -1,107 +1,105 @@
 -- What holds of each row of the instruction table.
-use Rattle.std.proofs.Common.{◌≡◌, ℕ, ◌*◌, ◌<◌, ℤ, pos, List, Option, Some, None, IsSomeAnd, map, option_map, slice_get, length, refl, sym, ap, ◌∙◌, subst, arith}
+use Rattle.std.proofs.Common.{◌≡◌, ℕ, zero, suc, ◌+◌, ◌*◌, ◌^◌, ◌<◌, ◌==◌, Bool, true, false, not, ◌&&◌, ℤ, pos, List, [], ◌∷◌, Option, Some, None, IsSomeAnd, slice_get, length, refl, sym, ap, ◌∙◌, subst, arith}
+use Rattle.std.specs.Option.{option_map_or}
 use Rattle.std.specs.Int.{w64, cast_unsigned}
-use Rattle.std.proofs.lemmas.Option.{slice_get-map}
+use Rattle.std.proofs.lemmas.Bool.{and_parts, eqb-true, not-true}
+use Rattle.mw_tables.specs.declared.layout.Field.{Field}
+use Rattle.mw_tables.specs.declared.layout.Layout.{Layout}
+use Rattle.mw_tables.specs.Rows.{lines, layouts}
+use Rattle.mw_tables.specs.Layouts.{fields_of, width_of, operand_at, operand_from, InRange, HasOperands}
 use Rattle.mw_decode.specs.declared.insn.Insn.{Insn}
-use Rattle.mw_decode.specs.declared.row.Shape.{Shape}
-use Rattle.mw_decode.specs.declared.layout.Layout.{Layout}
-use Rattle.mw_decode.specs.declared.layout.Layout.TheVariants.{DRtRaSi, DRaRsUi, DRtDRa, DRsDRa, DsRtDRa, DsRsDRa, ITarget, XRtRaRb, XRsRaRb, XRaRb, XoRtRaRb}
-use Rattle.mw_decode.specs.Row.{TableRow}
-use Rattle.mw_decode.specs.Rows.{table}
-use Rattle.mw_decode.specs.Fields.{fields_of, shape_of, HasOperands}
-use Rattle.mw_decode.specs.Decode.{IsInsn, HasForms}
-use Rattle.mw_decode.proofs.Ranges.{IsInsn-layout}
+use Rattle.mw_decode.specs.Decode.{IsInsn}
 use Rattle.mw_isa.specs.declared.operation.Operation.{Operation}
-use Rattle.mw_isa.specs.declared.operation.Operation.TheVariants.{Adder, Logic, Branch}
-use Rattle.mw_isa.specs.declared.operation.AdderRow.{AdderRow}
-use Rattle.mw_isa.specs.declared.operation.AdderRow.TheVariants.{Addi, Addis, Add}
-use Rattle.mw_isa.specs.declared.operation.LogicRow.{LogicRow}
-use Rattle.mw_isa.specs.declared.operation.LogicRow.TheVariants.{Ori}
-use Rattle.mw_isa.specs.declared.operation.BranchRow.{BranchRow}
-use Rattle.mw_isa.specs.declared.operation.BranchRow.TheVariants.{B}
-use Rattle.mw_isa.specs.declared.operation.Address.{Address}
-use Rattle.mw_isa.specs.declared.operation.Address.TheVariants.{Displaced, Indexed, Block}
-use Rattle.mw_isa.specs.declared.memory.MemWhat.{MemWhat}
-use Rattle.mw_isa.specs.declared.memory.MemWhat.TheVariants.{Load, Store, Conditional, Zero, Clean, Icbi}
-use Rattle.mw_isa.specs.Operations.{operations, shape_by, storage_shape}
-use Rattle.mw_isa.specs.Shaped.{IsShaped, IsPlaced, WritesFirst}
+use Rattle.mw_isa.specs.Operations.{operations, operand_count, register_places}
+use Rattle.mw_isa.specs.Execute.{operand_of}
+use Rattle.mw_isa.specs.Shaped.{AreRegisters, AreCounted, IsReady}
 
--- a register's field holds numbers below 32
-register_below : (z : ℤ) → (bits : ℕ) × (bits < 32) × (z ≡ pos (bits * 1)) → cast_unsigned w64 z < 32
-register_below z h =
-    let below : h.0 * 1 < 32 = omega (arith, h.1) in
-    subst (λ (v : ℤ). cast_unsigned w64 v < 32) (sym h.2) below
+-- a register's field: five bits, unsigned
+abbrev is_register_field : Field → Bool
+is_register_field f = (width_of f == 5) && ((f.shift == 0) && not f.signed)
 
--- what a layout holds has the shape that it lays out
-laid_shaped : (layout : Layout) (insn : Insn) → HasOperands (fields_of layout) insn.ops.items → IsShaped (shape_of layout) insn
-laid_shaped DRtRaSi insn h = (h.0, register_below _ h.1.0, register_below _ h.1.1.0)
-laid_shaped DRaRsUi insn h = (h.0, register_below _ h.1.0, register_below _ h.1.1.0)
-laid_shaped DRtDRa insn h = (h.0, register_below _ h.1.0, register_below _ h.1.1.1.0)
-laid_shaped DRsDRa insn h = (h.0, register_below _ h.1.0, register_below _ h.1.1.1.0)
-laid_shaped DsRtDRa insn h = (h.0, register_below _ h.1.0, register_below _ h.1.1.1.0)
-laid_shaped DsRsDRa insn h = (h.0, register_below _ h.1.0, register_below _ h.1.1.1.0)
-laid_shaped ITarget insn h = h.0
-laid_shaped XRtRaRb insn h = (h.0, register_below _ h.1.0, register_below _ h.1.1.0, register_below _ h.1.1.1.0)
-laid_shaped XRsRaRb insn h = (h.0, register_below _ h.1.0, register_below _ h.1.1.0, register_below _ h.1.1.1.0)
-laid_shaped XRaRb insn h = (h.0, register_below _ h.1.0, register_below _ h.1.1.0)
-laid_shaped XoRtRaRb insn h = (h.0, register_below _ h.1.0, register_below _ h.1.1.0, register_below _ h.1.1.1.0)
+-- so are the fields at these places
+abbrev have_registers : List Field → List ℕ → Bool
+have_registers fs [] = true
+have_registers fs (p ∷ ps) = option_map_or is_register_field (slice_get fs p) false && have_registers fs ps
 
--- an instruction of the table has the operands of its row's operand list
-pub shaped : (insn : Insn) (row : TableRow) → IsInsn insn → slice_get table insn.row ≡ Some row → IsShaped row.shape insn
-shaped insn row is e =
-    let l = IsInsn-layout insn row is e in
-    subst (λ (shape : Shape). IsShaped shape insn) l.1 (laid_shaped l.0 insn l.2)
+-- there are so many fields
+abbrev are_counted : Option ℕ → List Field → Bool
+are_counted None fs = true
+are_counted (Some count) fs = length fs == count
 
--- each operation has the operand list of its row
-shapes-agree : map shape_by operations ≡ map (λ (row : TableRow). row.shape) table
-unfolding operations table
-shapes-agree = refl
+-- a layout has the operands that an operation needs
+abbrev fits : Operation → Layout → Bool
+fits operation layout = are_counted (operand_count operation) (fields_of layout) && have_registers (fields_of layout) (register_places operation)
 
--- an operation at a place has the operand list of the row there
-shape_by-row : (place : ℕ) (operation : Operation) (row : TableRow) → slice_get operations place ≡ Some operation → slice_get table place ≡ Some row → row.shape ≡ shape_by operation
-shape_by-row place operation row o r =
-    let a : slice_get (map shape_by operations) place ≡ Some (shape_by operation) = slice_get-map shape_by operations place ∙ ap (option_map shape_by) o in
-    let b : slice_get (map (λ (row : TableRow). row.shape) table) place ≡ Some row.shape = slice_get-map (λ (row : TableRow). row.shape) table place ∙ ap (option_map (λ (row : TableRow). row.shape)) r in
-    let c : Some row.shape ≡ Some (shape_by operation) = sym b ∙ ap (λ (shapes : List Shape). slice_get shapes place) (sym shapes-agree) ∙ a in
-    cc
+-- so it is for each operation and the layout of its row
+abbrev all_fit : List Operation → List Layout → Bool
+all_fit [] [] = true
+all_fit [] (layout ∷ others) = false
+all_fit (operation ∷ others) [] = false
+all_fit (operation ∷ operations) (layout ∷ layouts) = fits operation layout && all_fit operations layouts
+
+operations-fit : all_fit operations layouts ≡ true
+unfolding operations layouts lines
+operations-fit = refl
+
+-- what holds of all holds at each place
+fits-at : (os : List Operation) (ls : List Layout) (place : ℕ) (o : Operation) (l : Layout) → all_fit os ls ≡ true → slice_get os place ≡ Some o → slice_get ls place ≡ Some l → fits o l ≡ true
+fits-at [] [] place o l all at there = cc
+fits-at [] (layout ∷ others) place o l all at there = cc
+fits-at (operation ∷ others) [] place o l all at there = cc
+fits-at (operation ∷ os) (layout ∷ ls) zero o l all at there =
+    let a : operation ≡ o = cc in
+    let b : layout ≡ l = cc in
+    rw (sym a, sym b) (and_parts _ _ all).0
+fits-at (operation ∷ os) (layout ∷ ls) (suc place) o l all at there = fits-at os ls place o l (and_parts _ _ all).1 at there
+
+-- there are as many operands as fields
+HasOperands-length : (fs : List Field) (zs : List ℤ) → HasOperands fs zs → length zs ≡ length fs
+HasOperands-length [] [] h = refl
+HasOperands-length [] (z ∷ zs) h = absurd h
+HasOperands-length (f ∷ fs) [] h = absurd h
+HasOperands-length (f ∷ fs) (z ∷ zs) h = ap suc (HasOperands-length fs zs h.1)
+
+-- an operand in a register's field is below 32
+below-in : (f : Field) (z : ℤ) → is_register_field f ≡ true → InRange f z → cast_unsigned w64 z < 32
+below-in f z is range =
+    let parts = and_parts _ _ is in
+    let rest = and_parts _ _ parts.1 in
+    let width : width_of f ≡ 5 = eqb-true _ _ parts.0 in
+    let shift : f.shift ≡ 0 = eqb-true _ _ rest.0 in
+    let plain : f.signed ≡ false = not-true _ rest.1 in
+    let small : range.0 < 32 = subst (λ (n : ℕ). range.0 < 2 ^ n) width range.1 in
+    let value : z ≡ pos (range.0 * 2 ^ f.shift) = range.2 ∙ rw plain in
+    let same : z ≡ pos range.0 = value ∙ rw shift (ap pos (omega arith)) in
+    subst (λ (v : ℤ). cast_unsigned w64 v < 32) (sym same) small
+
+-- the operand at the place of a register's field is one
+register-at : (fs : List Field) (zs : List ℤ) (place : ℕ) → HasOperands fs zs → option_map_or is_register_field (slice_get fs place) false ≡ true → cast_unsigned w64 (operand_at zs place) < 32
+register-at [] [] place h is = cc
+register-at [] (z ∷ zs) place h is = absurd h
+register-at (f ∷ fs) [] place h is = absurd h
+register-at (f ∷ fs) (z ∷ zs) zero h is = below-in f z is h.0
+register-at (f ∷ fs) (z ∷ zs) (suc place) h is = register-at fs zs place h.1 is
+
+registers-at : (insn : Insn) (fs : List Field) (places : List ℕ) → HasOperands fs insn.ops.items → have_registers fs places ≡ true → AreRegisters insn places
+registers-at insn fs [] h is = tt
+registers-at insn fs (p ∷ ps) h is =
+    let parts = and_parts _ _ is in
+    (register-at fs insn.ops.items p h parts.0, registers-at insn fs ps h parts.1)
+
+counted-at : (insn : Insn) (fs : List Field) (count : Option ℕ) → HasOperands fs insn.ops.items → are_counted count fs ≡ true → AreCounted insn count
+counted-at insn fs None h is = tt
+counted-at insn fs (Some count) h is = HasOperands-length fs insn.ops.items h ∙ eqb-true _ _ is
 
 -- some value is there
-some_of : {A : Type 0} (o : Option A) (P : A → Type 0) → IsSomeAnd o P → (x : A) × (o ≡ Some x)
+some_of : {A : Type 0} (o : Option A) (P : A → Type 0) → IsSomeAnd o P → (x : A) × (o ≡ Some x) × P x
 some_of None P h = absurd h
-some_of (Some x) P h = (x, refl)
+some_of (Some x) P h = (x, refl, h)
 
 -- an instruction of the table has the operands that its operation needs
-pub ready : (insn : Insn) (operation : Operation) → IsInsn insn → slice_get operations insn.row ≡ Some operation → IsShaped (shape_by operation) insn
-ready insn operation is e =
-    let there = some_of (slice_get table insn.row) (λ (row : TableRow). HasForms row insn) is.forms in
-    subst (λ (shape : Shape). IsShaped shape insn) (shape_by-row insn.row operation there.0 e there.1) (shaped insn there.0 is there.1)
-
--- an access has the operands that its address needs
-pub placed : (address : Address) (what : MemWhat) (insn : Insn) → IsShaped (storage_shape address what) insn → IsPlaced address insn
-placed Displaced (Load signed reversed reserve) insn h = h
-placed Displaced (Store reversed) insn h = h
-placed Displaced (Conditional reversed) insn h = h
-placed Displaced Zero insn h = h
-placed Displaced Clean insn h = h
-placed Displaced Icbi insn h = h
-placed Indexed (Load signed reversed reserve) insn h = (h.0, h.1, h.2)
-placed Indexed (Store reversed) insn h = (h.0, h.1, h.2)
-placed Indexed (Conditional reversed) insn h = (h.0, h.1, h.2)
-placed Indexed Zero insn h = (h.0, h.1, h.2)
-placed Indexed Clean insn h = (h.0, h.1, h.2)
-placed Indexed Icbi insn h = (h.0, h.1, h.2)
-placed Block what insn h = h
-
--- a row that adds has a register to write
-pub adder-ready : (row : AdderRow) (insn : Insn) → IsShaped (shape_by (Adder row)) insn → WritesFirst insn
-adder-ready Addi insn h = (h.0, h.1)
-adder-ready Addis insn h = (h.0, h.1)
-adder-ready Add insn h = (h.0, h.1)
-
--- and so has a row that works on single bits
-pub logic-ready : (row : LogicRow) (insn : Insn) → IsShaped (shape_by (Logic row)) insn → WritesFirst insn
-logic-ready Ori insn h = (h.0, h.1)
-
--- a branch has its displacement
-pub branch-ready : (row : BranchRow) (insn : Insn) → IsShaped (shape_by (Branch row)) insn → length insn.ops.items ≡ 1
-branch-ready B insn h = h
+pub ready : (insn : Insn) (operation : Operation) → IsInsn insn → slice_get operations insn.row ≡ Some operation → IsReady operation insn
+ready insn operation is at =
+    let there = some_of (slice_get layouts insn.row) (λ (layout : Layout). HasOperands (fields_of layout) insn.ops.items) is.operands in
+    let parts = and_parts _ _ (fits-at operations layouts insn.row operation there.0 operations-fit at there.1) in
+    (counted-at insn (fields_of there.0) (operand_count operation) there.2 parts.0, registers-at insn (fields_of there.0) (register_places operation) there.2 parts.1)

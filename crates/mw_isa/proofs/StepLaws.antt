@@ -16,7 +16,7 @@ use Rattle.mw_soc.specs.DeviceData.{DeviceData}
 use Rattle.mw_soc.specs.Devices.{cycle_of}
 use Rattle.mw_soc.proofs.Laws.{cycle-device_load, cycle-device_store}
 use Rattle.mw_isa.specs.Access.{accessed, is_in_ram, devices_behind}
-use Rattle.mw_isa.specs.Step.{Stepped, step, step_of, step_by, insn_in, outcome_of, written, after_of, decoded, builds, is_built, is_built_outcome}
+use Rattle.mw_isa.specs.Step.{Stepped, step, step_of, step_by, insn_in, outcome_of, written, after_of, decoded, builds, is_built, is_cut, is_built_outcome}
 use Rattle.mw_isa.specs.Replay.{acted, retires, same_suffix}
 
 -- what an instruction comes to, once it is known
@@ -37,21 +37,31 @@ same_suffix-refl None = refl
 same_suffix-refl (Some x) = eq-eqb x x refl
 
 -- whether the next instruction is built, from what it is and what it comes to
-pub builds-known : (insn : Insn) (outcome : Outcome) (state : State) → decoded state ≡ Is insn → exec_of insn (operands_of insn state.regs) state.regs.cia ≡ Some outcome → builds state ≡ (is_built (Is insn) && is_built_outcome (Some outcome))
+pub builds-known : (insn : Insn) (outcome : Outcome) (state : State) → decoded state ≡ Is insn → exec_of insn (operands_of insn state.regs) state.regs.cia ≡ Some outcome → builds state ≡ (not (is_cut (fetched state).word state.regs.cia) && (is_built (Is insn) && is_built_outcome (Some outcome)))
 unfolding builds
-builds-known insn outcome state d e = ap₂ (λ (w : Decoded) (s : Stepped). is_built w && is_built_outcome s.outcome) d (step-known insn outcome state d e)
+builds-known insn outcome state d e = ap₂ (λ (w : Decoded) (s : Stepped). not (is_cut (fetched state).word state.regs.cia) && (is_built w && is_built_outcome s.outcome)) d (step-known insn outcome state d e)
+
+-- a test that fails behind another
+fails_behind : (a b c : Bool) → b ≡ false → (a && (b && c)) ≡ false
+fails_behind true b c e = ap (λ (x : Bool). x && c) e
+fails_behind false b c e = refl
 
 -- an instruction that isn't built by what it is
 pub builds-not : (state : State) (word : Decoded) → decoded state ≡ word → is_built word ≡ false → builds state ≡ false
 unfolding builds
-builds-not state word d unbuilt = ap (λ (b : Bool). b && is_built_outcome (step state).outcome) (ap is_built d ∙ unbuilt)
+builds-not state word d unbuilt = fails_behind (not (is_cut (fetched state).word state.regs.cia)) (is_built (decoded state)) (is_built_outcome (step state).outcome) (ap is_built d ∙ unbuilt)
+
+-- a prefix at the end of a block isn't built
+pub builds-cut : (state : State) → is_cut (fetched state).word state.regs.cia ≡ true → builds state ≡ false
+unfolding builds
+builds-cut state cut = ap (λ (b : Bool). not b && (is_built (decoded state) && is_built_outcome (step state).outcome)) cut
 
 -- both tests hold
 both : {a b : Bool} → a ≡ true → b ≡ true → (a && b) ≡ true
 both p q = ap₂ (λ (x : Bool) (y : Bool). x && y) p q
 
 -- an instruction that is built retires, by the words that it was made of, and leaves what its outcome leaves
-pub acted-retire : (cycle : ℕ) (insn : Insn) (outcome : Outcome) (state : State) → decoded state ≡ Is insn → builds state ≡ true → exec_of insn (operands_of insn state.regs) state.regs.cia ≡ Some outcome → acted (Retire cycle state.regs.cia (fetched state).word (fetched state).suffix) state ≡ Some (after_of (Some outcome) state.regs.cia state)
+pub acted-retire : (cycle : ℕ) (insn : Insn) (outcome : Outcome) (state : State) → decoded state ≡ Is insn → builds state ≡ true → exec_of insn (operands_of insn state.regs) state.regs.cia ≡ Some outcome → acted (Retire cycle state.regs.cia (fetched state).word (fetched state).suffix) state ≡ Some (after_of (Some insn) (Some outcome) state.regs.cia state)
 unfolding acted
 acted-retire cycle insn outcome state d b e =
     let s = step-known insn outcome state d e in
@@ -85,11 +95,12 @@ written-cycle (Done targets next) state = refl
 written-cycle (Memory op) state = accessed-cycle op state
 
 -- and so does the instruction
-pub after_of-cycle : (outcome : Option Outcome) (at : ℕ) (state : State) → cycle_of (after_of outcome at state).devices ≡ cycle_of state.devices
-after_of-cycle None at state = refl
-after_of-cycle (Some outcome) at state = written-cycle outcome state
+pub after_of-cycle : (insn : Option Insn) (outcome : Option Outcome) (at : ℕ) (state : State) → cycle_of (after_of insn outcome at state).devices ≡ cycle_of state.devices
+after_of-cycle None outcome at state = refl
+after_of-cycle (Some insn) None at state = refl
+after_of-cycle (Some insn) (Some outcome) at state = written-cycle outcome state
 
 -- a step leaves the devices' cycle
 pub step-cycle : (state : State) → cycle_of (step state).after.devices ≡ cycle_of state.devices
 unfolding step
-step-cycle state = after_of-cycle (outcome_of (insn_in (decoded state)) state.regs.cia state.regs) state.regs.cia state
+step-cycle state = after_of-cycle (insn_in (decoded state)) (outcome_of (insn_in (decoded state)) state.regs.cia state.regs) state.regs.cia state

@@ -1,23 +1,22 @@
 -- What an instruction comes to, from the registers that it reads (Book I, fixed-point, storage access and branch
 -- instructions).
-use Rattle.std.specs.Prelude.{ℕ, ◌+◌, ◌*◌, ◌%◌, ◌^◌, ◌==◌, if◌then◌else◌, List, [], ◌∷◌, Option, Some, None, slice_index, slice_set, slice_get, option_map, bit_or}
+use Rattle.std.specs.Prelude.{ℕ, ◌+◌, ◌*◌, ◌%◌, ◌^◌, ◌==◌, Bool, true, false, if◌then◌else◌, nat_lt, List, [], ◌∷◌, Option, Some, None, slice_index, slice_set, slice_get, option_and_then, bit_or}
 use Rattle.std.specs.Option.{option_map_or}
 use Rattle.std.specs.Int.{w64, cast_unsigned}
 use Rattle.mw_decode.specs.declared.insn.Insn.{Insn}
-use Rattle.mw_decode.specs.declared.row.Shape.{Shape}
-use Rattle.mw_decode.specs.declared.row.Shape.TheVariants.{RtRaSi, RaRsUi, Target as Displacement, RtRaRb, RtDRa, RsDRa, RsRaRb, RaRb}
-use Rattle.mw_decode.specs.Row.{TableRow}
-use Rattle.mw_decode.specs.Rows.{table}
-use Rattle.mw_decode.specs.Fields.{operand_at}
+use Rattle.mw_tables.specs.Row.{TableRow}
+use Rattle.mw_tables.specs.Rows.{table}
+use Rattle.mw_tables.specs.Layouts.{operand_at}
+use Rattle.mw_tables.specs.Matching.{kind_number}
 use Rattle.mw_isa.specs.declared.operation.Operation.{Operation}
-use Rattle.mw_isa.specs.declared.operation.Operation.TheVariants.{Adder, Logic, Branch, Storage, Hint}
+use Rattle.mw_isa.specs.declared.operation.Operation.TheVariants.{Adder, Logic, Branch, Storage, Hint, Later}
 use Rattle.mw_isa.specs.declared.operation.StorageRow.{StorageRow}
 use Rattle.mw_isa.specs.declared.operation.Address.{Address}
-use Rattle.mw_isa.specs.declared.operation.Address.TheVariants.{Displaced, Indexed, Block}
+use Rattle.mw_isa.specs.declared.operation.Address.TheVariants.{Displaced, Indexed, Block, Prefixed}
 use Rattle.mw_isa.specs.declared.memory.MemWhat.{MemWhat}
-use Rattle.mw_isa.specs.declared.memory.MemWhat.TheVariants.{Load}
+use Rattle.mw_isa.specs.declared.memory.MemWhat.TheVariants.{Load, Store, Conditional}
 use Rattle.mw_isa.specs.declared.operation.AdderRow.{AdderRow}
-use Rattle.mw_isa.specs.declared.operation.AdderRow.TheVariants.{Addi, Addis, Add}
+use Rattle.mw_isa.specs.declared.operation.AdderRow.TheVariants.{Addi, Addis, Add, Paddi}
 use Rattle.mw_isa.specs.declared.operation.LogicRow.{LogicRow}
 use Rattle.mw_isa.specs.declared.operation.LogicRow.TheVariants.{Ori}
 use Rattle.mw_isa.specs.declared.operation.BranchRow.{BranchRow}
@@ -42,20 +41,34 @@ pub record Sources : Type 0 where
   pub b : Option ℕ
   pub c : Option ℕ
 
--- RA or RS is read as a, RB as b, and the register that is stored as c
-abbrev pub sources_of : Shape → Sources
-sources_of RtRaSi = record { a = Some 1; b = None; c = None }
-sources_of RaRsUi = record { a = Some 1; b = None; c = None }
-sources_of Displacement = record { a = None; b = None; c = None }
-sources_of RtRaRb = record { a = Some 1; b = Some 2; c = None }
-sources_of RtDRa = record { a = Some 2; b = None; c = None }
-sources_of RsDRa = record { a = Some 2; b = None; c = Some 0 }
-sources_of RsRaRb = record { a = Some 1; b = Some 2; c = Some 0 }
-sources_of RaRb = record { a = Some 0; b = Some 1; c = None }
+-- no register is read
+abbrev pub no_sources : Sources
+no_sources = record { a = None; b = None; c = None }
 
--- the operand list of an instruction's row
-abbrev pub shape_of : Insn → Option Shape
-shape_of insn = option_map (λ (row : TableRow). row.shape) (slice_get table insn.row)
+-- the register that is stored, at this place, if one is
+abbrev pub stored_place : MemWhat → Option ℕ
+stored_place (Store reversed) = Some 0
+stored_place (Conditional reversed) = Some 0
+stored_place what = None
+
+-- of an access RA is read as a, RB as b, and the register that is stored as c
+abbrev pub storage_sources : Address → MemWhat → Sources
+storage_sources Displaced what = record { a = Some 2; b = None; c = stored_place what }
+storage_sources Indexed what = record { a = Some 1; b = Some 2; c = stored_place what }
+storage_sources Block what = record { a = Some 0; b = Some 1; c = None }
+storage_sources Prefixed what = record { a = Some 2; b = None; c = stored_place what }
+
+-- RA or RS is read as a, and RB as b
+abbrev pub sources_of : Operation → Sources
+sources_of (Adder Addi) = record no_sources { a = Some 1 }
+sources_of (Adder Addis) = record no_sources { a = Some 1 }
+sources_of (Adder Add) = record no_sources { a = Some 1; b = Some 2 }
+sources_of (Adder Paddi) = record no_sources { a = Some 1 }
+sources_of (Logic Ori) = record no_sources { a = Some 1 }
+sources_of (Branch B) = no_sources
+sources_of (Storage row) = storage_sources row.address row.what
+sources_of Hint = no_sources
+sources_of Later = no_sources
 
 -- the content of the register at a place, or 0 where none is read
 abbrev pub content_of : Insn → Regs → Option ℕ → ℕ
@@ -78,7 +91,7 @@ operands_by sources insn regs = record {
 
 -- what an instruction reads of the registers
 unfoldable pub operands_of : Insn → Regs → Operands
-operands_of insn regs = operands_by (option_map_or sources_of (shape_of insn) (record { a = None; b = None; c = None })) insn regs
+operands_of insn regs = operands_by (option_map_or sources_of (slice_get operations insn.row) no_sources) insn regs
 
 -- a sum in 64 bits
 abbrev pub sum_of : ℕ → ℕ → ℕ
@@ -88,9 +101,17 @@ sum_of x y = (x + y) % 2 ^ 64
 abbrev pub or_zero : Insn → ℕ → ℕ → ℕ
 or_zero insn place content = if operand_of insn place == 0 then 0 else content
 
--- one register is written, and the next word follows
+-- the row of an instruction has a prefix
+abbrev pub has_prefix : Insn → Bool
+has_prefix insn = option_map_or (λ (row : TableRow). nat_lt 0 (kind_number row.prefix)) (slice_get table insn.row) false
+
+-- the address behind an instruction: behind its word, or behind its prefix and its suffix
+abbrev pub behind_insn : Insn → ℕ → ℕ
+behind_insn insn at = if has_prefix insn then behind (behind at) else behind at
+
+-- one register is written, and the instruction behind follows
 abbrev pub plain_of : Insn → ℕ → ℕ → Outcome
-plain_of insn value cia = Done (record { items = record { slot = Gpr (operand_of insn 0); value = Some value } ∷ [] }) (behind cia)
+plain_of insn value cia = Done (record { items = record { slot = Gpr (operand_of insn 0); value = Some value } ∷ [] }) (behind_insn insn cia)
 
 -- no register is written, and the instruction at this address follows
 abbrev pub branch_to : ℕ → Outcome
@@ -100,6 +121,10 @@ branch_to next = Done (record { items = [] }) next
 abbrev pub target_of : Insn → ℕ → ℕ
 target_of insn cia = if insn.aa then operand_of insn 0 else sum_of cia (operand_of insn 0)
 
+-- the base of a prefixed row: the prefix's own address where R, the operand at place 3, is 1, and else (RA|0)
+abbrev pub base_or_own : Insn → ℕ → ℕ → ℕ → ℕ
+base_or_own insn place content cia = if operand_of insn 3 == 1 then cia else or_zero insn place content
+
 -- the rows that add
 abbrev pub adder_of : AdderRow → Insn → Operands → ℕ → Outcome
 -- RT ← (RA|0) + EXTS(SI)
@@ -108,6 +133,8 @@ adder_of Addi insn o cia = plain_of insn (sum_of (or_zero insn 1 o.a) (operand_o
 adder_of Addis insn o cia = plain_of insn (sum_of (or_zero insn 1 o.a) (operand_of insn 2 * 2 ^ 16)) cia
 -- RT ← (RA) + (RB)
 adder_of Add insn o cia = plain_of insn (sum_of o.a o.b) cia
+-- RT ← (RA|0) + EXTS(SI), or CIA + EXTS(SI), with an SI of 34 bits
+adder_of Paddi insn o cia = plain_of insn (sum_of (base_or_own insn 1 o.a cia) (operand_of insn 2)) cia
 
 -- the rows that work on single bits
 abbrev pub logic_of : LogicRow → Insn → Operands → ℕ → Outcome
@@ -124,16 +151,25 @@ abbrev pub base_place : Address → ℕ
 base_place Displaced = 2
 base_place Indexed = 1
 base_place Block = 0
+base_place Prefixed = 2
 
--- what is added to RA|0: the displacement, or the content of RB
+-- what the effective address counts from: (RA|0), or the prefix's own address
+abbrev pub base_of : Address → Insn → Operands → ℕ → ℕ
+base_of Displaced insn o cia = or_zero insn 2 o.a
+base_of Indexed insn o cia = or_zero insn 1 o.a
+base_of Block insn o cia = or_zero insn 0 o.a
+base_of Prefixed insn o cia = base_or_own insn 2 o.a cia
+
+-- what is added to it: the displacement, or the content of RB
 abbrev pub offset_of : Address → Insn → Operands → ℕ
 offset_of Displaced insn o = operand_of insn 1
 offset_of Indexed insn o = o.b
 offset_of Block insn o = o.b
+offset_of Prefixed insn o = operand_of insn 1
 
--- EA ← (RA|0) + EXTS(D), or (RA|0) + (RB)
-abbrev pub effective_of : Address → Insn → Operands → ℕ
-effective_of address insn o = sum_of (or_zero insn (base_place address) o.a) (offset_of address insn o)
+-- EA ← (RA|0) + EXTS(D), or (RA|0) + (RB), or CIA + EXTS(D)
+abbrev pub effective_of : Address → Insn → Operands → ℕ → ℕ
+effective_of address insn o cia = sum_of (base_of address insn o cia) (offset_of address insn o)
 
 -- the register that is loaded: RT of a load, and none otherwise, which is written as 0
 abbrev pub loaded_of : MemWhat → Insn → ℕ
@@ -141,27 +177,37 @@ loaded_of (Load signed reversed reserve) insn = operand_of insn 0
 loaded_of what insn = 0
 
 -- the rows that access storage: RT ← MEM(EA), MEM(EA) ← (RS), and their kin; with update RA ← EA
-abbrev pub storage_of : StorageRow → Insn → Operands → Outcome
-storage_of row insn o = Memory (record {
+abbrev pub storage_of : StorageRow → Insn → Operands → ℕ → Outcome
+storage_of row insn o cia = Memory (record {
   what = row.what;
-  ea = effective_of row.address insn o;
+  ea = effective_of row.address insn o cia;
   len = row.len;
   value = o.c;
   to = loaded_of row.what insn;
   update = if row.update then Some (operand_of insn (base_place row.address)) else None;
 })
 
--- what an operation comes to
-abbrev pub effect_of : Operation → Insn → Operands → ℕ → Outcome
-effect_of (Adder row) insn o cia = adder_of row insn o cia
-effect_of (Logic row) insn o cia = logic_of row insn o cia
-effect_of (Branch row) insn o cia = branch_of row insn o cia
-effect_of (Storage row) insn o cia = storage_of row insn o
-effect_of Hint insn o cia = branch_to (behind cia)
+-- what an operation comes to; one that isn't built comes to nothing
+abbrev pub effect_of : Operation → Insn → Operands → ℕ → Option Outcome
+effect_of (Adder row) insn o cia = Some (adder_of row insn o cia)
+effect_of (Logic row) insn o cia = Some (logic_of row insn o cia)
+effect_of (Branch row) insn o cia = Some (branch_of row insn o cia)
+effect_of (Storage row) insn o cia = Some (storage_of row insn o cia)
+effect_of Hint insn o cia = Some (branch_to (behind_insn insn cia))
+effect_of Later insn o cia = None
 
--- what an instruction at an address comes to; none where the table has no such row
+-- what an instruction at an address comes to; none where its row isn't built, or the table has no such row
 unfoldable pub exec_of : Insn → Operands → ℕ → Option Outcome
-exec_of insn operands cia = option_map (λ operation. effect_of operation insn operands cia) (slice_get operations insn.row)
+exec_of insn operands cia = option_and_then (λ operation. effect_of operation insn operands cia) (slice_get operations insn.row)
+
+-- the operation is built
+abbrev pub is_built_operation : Operation → Bool
+is_built_operation Later = false
+is_built_operation operation = true
+
+-- the row of an instruction is built
+abbrev pub is_built_row : Insn → Bool
+is_built_row insn = option_map_or is_built_operation (slice_get operations insn.row) false
 
 -- a register with a new content
 abbrev pub set_slot : Regs → Slot → ℕ → Regs

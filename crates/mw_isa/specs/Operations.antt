@@ -1,16 +1,14 @@
 -- What each row of the instruction table does, by the unit that does it.
-use Rattle.std.specs.Prelude.{ℕ, true, false, List, [], ◌∷◌}
-use Rattle.mw_decode.specs.declared.row.Shape.{Shape}
-use Rattle.mw_decode.specs.declared.row.Shape.TheVariants.{RtRaSi, RaRsUi, Target, RtRaRb, RtDRa, RsDRa, RsRaRb, RaRb}
+use Rattle.std.specs.Prelude.{ℕ, true, false, List, [], ◌∷◌, Option, Some, None}
 use Rattle.mw_isa.specs.declared.memory.MemWhat.{MemWhat}
 use Rattle.mw_isa.specs.declared.memory.MemWhat.TheVariants.{Load, Store, Conditional, Zero, Clean, Icbi}
 use Rattle.mw_isa.specs.declared.operation.Operation.{Operation}
-use Rattle.mw_isa.specs.declared.operation.Operation.TheVariants.{Adder, Logic, Branch, Storage, Hint}
-use Rattle.mw_isa.specs.declared.operation.AdderRow.TheVariants.{Addi, Addis, Add}
+use Rattle.mw_isa.specs.declared.operation.Operation.TheVariants.{Adder, Logic, Branch, Storage, Hint, Later}
+use Rattle.mw_isa.specs.declared.operation.AdderRow.TheVariants.{Addi, Addis, Add, Paddi}
 use Rattle.mw_isa.specs.declared.operation.LogicRow.TheVariants.{Ori}
 use Rattle.mw_isa.specs.declared.operation.BranchRow.TheVariants.{B}
 use Rattle.mw_isa.specs.declared.operation.Address.{Address}
-use Rattle.mw_isa.specs.declared.operation.Address.TheVariants.{Displaced, Indexed, Block}
+use Rattle.mw_isa.specs.declared.operation.Address.TheVariants.{Displaced, Indexed, Block, Prefixed}
 use Rattle.mw_isa.specs.declared.operation.StorageRow.{StorageRow}
 
 -- an access of so many bytes at RA|0 and a displacement
@@ -53,6 +51,10 @@ indexed row = record row { address = Indexed }
 abbrev pub updating : StorageRow → StorageRow
 updating row = record row { update = true }
 
+-- the same at RA|0 and a displacement of 34 bits, or at the prefix's own address and the displacement
+abbrev pub prefixed : StorageRow → StorageRow
+prefixed row = record row { address = Prefixed }
+
 -- a cache row: so many bytes at RA|0 and RB
 abbrev pub block : MemWhat → ℕ → StorageRow
 block what len = record { what = what; len = len; address = Block; update = false }
@@ -62,9 +64,133 @@ unfoldable pub operations : List Operation
 operations =
     Adder Addi  -- addi
     ∷ Adder Addis  -- addis
+    ∷ Later  -- addic
+    ∷ Later  -- addic.
+    ∷ Later  -- subfic
+    ∷ Later  -- mulli
+    ∷ Later  -- cmpi
+    ∷ Later  -- cmpli
+    ∷ Later  -- tdi
+    ∷ Later  -- twi
     ∷ Logic Ori  -- ori
+    ∷ Later  -- oris
+    ∷ Later  -- xori
+    ∷ Later  -- xoris
+    ∷ Later  -- andi.
+    ∷ Later  -- andis.
+    ∷ Later  -- addpcis
     ∷ Branch B  -- b
+    ∷ Later  -- bc
+    ∷ Later  -- bclr
+    ∷ Later  -- bcctr
+    ∷ Later  -- bctar
+    ∷ Later  -- crnor
+    ∷ Later  -- crandc
+    ∷ Later  -- crxor
+    ∷ Later  -- crnand
+    ∷ Later  -- crand
+    ∷ Later  -- creqv
+    ∷ Later  -- crorc
+    ∷ Later  -- cror
+    ∷ Later  -- mcrf
+    ∷ Later  -- rlwinm
+    ∷ Later  -- rlwnm
+    ∷ Later  -- rlwimi
+    ∷ Later  -- rldicl
+    ∷ Later  -- rldicr
+    ∷ Later  -- rldic
+    ∷ Later  -- rldimi
+    ∷ Later  -- rldcl
+    ∷ Later  -- rldcr
+    ∷ Later  -- maddhd
+    ∷ Later  -- maddhdu
+    ∷ Later  -- maddld
     ∷ Adder Add  -- add
+    ∷ Later  -- subf
+    ∷ Later  -- neg
+    ∷ Later  -- addc
+    ∷ Later  -- subfc
+    ∷ Later  -- adde
+    ∷ Later  -- subfe
+    ∷ Later  -- addme
+    ∷ Later  -- subfme
+    ∷ Later  -- addze
+    ∷ Later  -- subfze
+    ∷ Later  -- mullw
+    ∷ Later  -- mulld
+    ∷ Later  -- mulhd
+    ∷ Later  -- mulhdu
+    ∷ Later  -- mulhw
+    ∷ Later  -- mulhwu
+    ∷ Later  -- divd
+    ∷ Later  -- divdu
+    ∷ Later  -- divw
+    ∷ Later  -- divwu
+    ∷ Later  -- divde
+    ∷ Later  -- divdeu
+    ∷ Later  -- divwe
+    ∷ Later  -- divweu
+    ∷ Later  -- modsd
+    ∷ Later  -- modud
+    ∷ Later  -- modsw
+    ∷ Later  -- moduw
+    ∷ Later  -- addex
+    ∷ Later  -- and
+    ∷ Later  -- andc
+    ∷ Later  -- or
+    ∷ Later  -- orc
+    ∷ Later  -- xor
+    ∷ Later  -- eqv
+    ∷ Later  -- nand
+    ∷ Later  -- nor
+    ∷ Later  -- slw
+    ∷ Later  -- srw
+    ∷ Later  -- sld
+    ∷ Later  -- srd
+    ∷ Later  -- sraw
+    ∷ Later  -- srawi
+    ∷ Later  -- srad
+    ∷ Later  -- sradi
+    ∷ Later  -- extswsli
+    ∷ Later  -- extsb
+    ∷ Later  -- extsh
+    ∷ Later  -- extsw
+    ∷ Later  -- cntlzw
+    ∷ Later  -- cntlzd
+    ∷ Later  -- cnttzw
+    ∷ Later  -- cnttzd
+    ∷ Later  -- cntlzdm
+    ∷ Later  -- cnttzdm
+    ∷ Later  -- popcntb
+    ∷ Later  -- popcntw
+    ∷ Later  -- popcntd
+    ∷ Later  -- prtyw
+    ∷ Later  -- prtyd
+    ∷ Later  -- brh
+    ∷ Later  -- brw
+    ∷ Later  -- brd
+    ∷ Later  -- pdepd
+    ∷ Later  -- pextd
+    ∷ Later  -- cfuged
+    ∷ Later  -- bpermd
+    ∷ Later  -- cmpb
+    ∷ Later  -- cmp
+    ∷ Later  -- cmpl
+    ∷ Later  -- tw
+    ∷ Later  -- td
+    ∷ Later  -- isel
+    ∷ Later  -- mfcr
+    ∷ Later  -- mfocrf
+    ∷ Later  -- mtcrf
+    ∷ Later  -- mtocrf
+    ∷ Later  -- setb
+    ∷ Later  -- setbc
+    ∷ Later  -- setbcr
+    ∷ Later  -- setnbc
+    ∷ Later  -- setnbcr
+    ∷ Later  -- cmprb
+    ∷ Later  -- cmpeqb
+    ∷ Later  -- mcrxrx
     ∷ Storage (load 4)  -- lwz
     ∷ Storage (updating (load 4))  -- lwzu
     ∷ Storage (load 1)  -- lbz
@@ -132,22 +258,70 @@ operations =
     ∷ Hint  -- dcbt
     ∷ Storage (block Icbi 1)  -- icbi
     ∷ Storage (block Zero 64)  -- dcbz
+    ∷ Later  -- sc
+    ∷ Later  -- rfid
+    ∷ Later  -- hrfid
+    ∷ Later  -- isync
+    ∷ Later  -- sync
+    ∷ Later  -- eieio
+    ∷ Later  -- tlbsync
+    ∷ Later  -- mfmsr
+    ∷ Later  -- mtmsr
+    ∷ Later  -- mtmsrd
+    ∷ Later  -- tlbie
+    ∷ Later  -- tlbiel
+    ∷ Later  -- mfspr
+    ∷ Later  -- mtspr
+    ∷ Later  -- mftb
+    ∷ Later  -- darn
+    ∷ Adder Paddi  -- paddi
+    ∷ Storage (prefixed (load 4))  -- plwz
+    ∷ Storage (prefixed (load 1))  -- plbz
+    ∷ Storage (prefixed (store 4))  -- pstw
+    ∷ Storage (prefixed (store 1))  -- pstb
+    ∷ Storage (prefixed (load 2))  -- plhz
+    ∷ Storage (prefixed (algebraic 2))  -- plha
+    ∷ Storage (prefixed (store 2))  -- psth
+    ∷ Storage (prefixed (algebraic 4))  -- plwa
+    ∷ Storage (prefixed (load 8))  -- pld
+    ∷ Storage (prefixed (store 8))  -- pstd
+    ∷ Hint  -- pnop
     ∷ []
 
--- the operand list of an access
-abbrev pub storage_shape : Address → MemWhat → Shape
-storage_shape Displaced (Load signed reversed reserve) = RtDRa
-storage_shape Displaced what = RsDRa
-storage_shape Indexed (Load signed reversed reserve) = RtRaRb
-storage_shape Indexed what = RsRaRb
-storage_shape Block what = RaRb
+-- how many operands an access has
+abbrev pub address_count : Address → ℕ
+address_count Displaced = 3
+address_count Indexed = 3
+address_count Block = 2
+address_count Prefixed = 4
 
--- the operand list of an operation
-abbrev pub shape_by : Operation → Shape
-shape_by (Adder Addi) = RtRaSi
-shape_by (Adder Addis) = RtRaSi
-shape_by (Adder Add) = RtRaRb
-shape_by (Logic Ori) = RaRsUi
-shape_by (Branch B) = Target
-shape_by (Storage row) = storage_shape row.address row.what
-shape_by Hint = RaRb
+-- the places of the registers among them
+abbrev pub address_registers : Address → List ℕ
+address_registers Displaced = 0 ∷ 2 ∷ []
+address_registers Indexed = 0 ∷ 1 ∷ 2 ∷ []
+address_registers Block = 0 ∷ 1 ∷ []
+address_registers Prefixed = 0 ∷ 2 ∷ []
+
+-- how many operands an operation has; of one that does nothing with them nothing is asked
+abbrev pub operand_count : Operation → Option ℕ
+operand_count (Adder Addi) = Some 3
+operand_count (Adder Addis) = Some 3
+operand_count (Adder Add) = Some 3
+operand_count (Adder Paddi) = Some 4
+operand_count (Logic Ori) = Some 3
+operand_count (Branch B) = Some 1
+operand_count (Storage row) = Some (address_count row.address)
+operand_count Hint = None
+operand_count Later = None
+
+-- the places of the registers among them
+abbrev pub register_places : Operation → List ℕ
+register_places (Adder Addi) = 0 ∷ 1 ∷ []
+register_places (Adder Addis) = 0 ∷ 1 ∷ []
+register_places (Adder Add) = 0 ∷ 1 ∷ 2 ∷ []
+register_places (Adder Paddi) = 0 ∷ 1 ∷ []
+register_places (Logic Ori) = 0 ∷ 1 ∷ []
+register_places (Branch B) = []
+register_places (Storage row) = address_registers row.address
+register_places Hint = []
+register_places Later = []

@@ -1,9 +1,9 @@
 -- One instruction, carried out on a state whose devices stand at its cycle (Books I to III).
-use Rattle.std.specs.Prelude.{ℕ, Bool, true, false, not, ◌&&◌, List, [], ◌∷◌, Option, Some, None, option_and_then}
+use Rattle.std.specs.Prelude.{ℕ, ◌%◌, ◌==◌, Bool, true, false, not, ◌&&◌, List, [], ◌∷◌, Option, Some, None, option_and_then}
 use Rattle.mw_decode.specs.declared.insn.Insn.{Insn}
 use Rattle.mw_decode.specs.declared.insn.Decoded.{Decoded}
-use Rattle.mw_decode.specs.declared.insn.Decoded.TheVariants.{Insn as Is, Illegal}
-use Rattle.mw_decode.specs.Decode.{decode_of}
+use Rattle.mw_decode.specs.declared.insn.Decoded.TheVariants.{Insn as Is, Unavailable, Alignment, Illegal}
+use Rattle.mw_decode.specs.Decode.{decode_of, is_prefix}
 use Rattle.mw_isa.specs.declared.access.Kind.TheVariants.{Fetch}
 use Rattle.mw_isa.specs.declared.access.Touch.{Touch}
 use Rattle.mw_isa.specs.declared.access.Deed.{Deed}
@@ -13,8 +13,8 @@ use Rattle.mw_isa.specs.declared.outcome.Outcome.TheVariants.{Done, Memory}
 use Rattle.mw_isa.specs.declared.regs.Regs.{Regs}
 use Rattle.mw_isa.specs.declared.vector.Vector.{Vector}
 use Rattle.mw_isa.specs.State.{State}
-use Rattle.mw_isa.specs.Fetch.{Fetched, fetched, behind}
-use Rattle.mw_isa.specs.Execute.{operands_of, exec_of, set_targets}
+use Rattle.mw_isa.specs.Fetch.{Fetched, fetched}
+use Rattle.mw_isa.specs.Execute.{operands_of, exec_of, set_targets, behind_insn, is_built_row}
 use Rattle.mw_isa.specs.Access.{accessed, is_built_access, touches_of, deed_by}
 
 -- an interrupt that an instruction raises: its vector, its cause in SRR1, and DAR and DSISR where they change
@@ -39,6 +39,8 @@ pub record Stepped : Type 0 where
 -- the instruction that a word is, if it is one
 abbrev pub insn_in : Decoded → Option Insn
 insn_in (Is insn) = Some insn
+insn_in (Unavailable facility) = None
+insn_in (Alignment ra rb disp) = None
 insn_in Illegal = None
 
 -- what an instruction at an address comes to, if there is one
@@ -51,18 +53,19 @@ written (Done targets next) state = record state { regs = set_targets targets.it
 written (Memory op) state = accessed op state
 
 -- the address of the next instruction, from that of this one
-abbrev pub next_of : Outcome → ℕ → ℕ
-next_of (Done targets next) at = next
-next_of (Memory op) at = behind at
+abbrev pub next_of : Insn → Outcome → ℕ → ℕ
+next_of insn (Done targets next) at = next
+next_of insn (Memory op) at = behind_insn insn at
 
 -- a state at an instruction
 abbrev pub at_address : ℕ → State → State
 at_address at state = record state { regs = record state.regs { cia = at } }
 
 -- the state that the outcome of an instruction at an address leaves; without one nothing changes
-abbrev pub after_of : Option Outcome → ℕ → State → State
-after_of None at state = state
-after_of (Some outcome) at state = at_address (next_of outcome at) (written outcome state)
+abbrev pub after_of : Option Insn → Option Outcome → ℕ → State → State
+after_of (Some insn) (Some outcome) at state = at_address (next_of insn outcome at) (written outcome state)
+after_of (Some insn) None at state = state
+after_of None outcome at state = state
 
 -- the accesses to data of an outcome, in order
 abbrev pub data_of : Option Outcome → List Touch
@@ -86,7 +89,7 @@ step_by insn outcome words at state = record {
   suffix = words.suffix;
   accesses = record { kind = Fetch; ea = at } ∷ data_of outcome;
   deed = deed_of outcome state;
-  after = after_of outcome at state;
+  after = after_of insn outcome at state;
 }
 
 -- an instruction at an address
@@ -101,10 +104,16 @@ decoded state = decode_of (fetched state).word (fetched state).suffix
 unfoldable pub step : State → Stepped
 step state = step_of (insn_in (decoded state)) (fetched state) state.regs.cia state
 
--- an instruction that is built: a row of the table without OE, Rc and LK
+-- an instruction that is built: its row is, and it has neither OE, Rc nor LK
 abbrev pub is_built : Decoded → Bool
-is_built (Is insn) = not insn.oe && (not insn.rc && not insn.lk)
+is_built (Is insn) = is_built_row insn && (not insn.oe && (not insn.rc && not insn.lk))
+is_built (Unavailable facility) = false
+is_built (Alignment ra rb disp) = false
 is_built Illegal = false
+
+-- a prefix that ends a block of 64 bytes, whose suffix would stand in the next one
+abbrev pub is_cut : ℕ → ℕ → Bool
+is_cut word at = is_prefix word && at % 64 == 60
 
 -- an outcome that is built: it raises no interrupt and reaches no device that isn't built
 abbrev pub is_built_outcome : Option Outcome → Bool
@@ -114,4 +123,4 @@ is_built_outcome (Some (Memory op)) = is_built_access op
 
 -- the next instruction is built
 unfoldable pub builds : State → Bool
-builds state = is_built (decoded state) && is_built_outcome (step state).outcome
+builds state = not (is_cut (fetched state).word state.regs.cia) && (is_built (decoded state) && is_built_outcome (step state).outcome)

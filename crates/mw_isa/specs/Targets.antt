@@ -5,7 +5,7 @@ use Rattle.mw_decode.specs.declared.insn.Insn.{Insn}
 use Rattle.mw_isa.specs.declared.memory.MemWhat.{MemWhat}
 use Rattle.mw_isa.specs.declared.memory.MemWhat.TheVariants.{Load}
 use Rattle.mw_isa.specs.declared.operation.Operation.{Operation}
-use Rattle.mw_isa.specs.declared.operation.Operation.TheVariants.{Adder, Logic, Branch, Storage, Hint}
+use Rattle.mw_isa.specs.declared.operation.Operation.TheVariants.{Adder, Logic, Branch, Storage, Hint, Later}
 use Rattle.mw_isa.specs.declared.operation.StorageRow.{StorageRow}
 use Rattle.mw_isa.specs.declared.outcome.Slot.{Slot}
 use Rattle.mw_isa.specs.declared.outcome.Slot.TheVariants.{Gpr}
@@ -28,6 +28,7 @@ targets_by (Logic row) insn = Gpr (operand_of insn 0) ∷ []
 targets_by (Branch row) insn = []
 targets_by (Storage row) insn = storage_targets row insn
 targets_by Hint insn = []
+targets_by Later insn = []
 
 -- the general purpose registers that an instruction writes, in order
 abbrev pub targets_of : Insn → List Slot

@@ -25,7 +25,7 @@ pub use vector::Vector;
 #[cfg(test)]
 mod tests {
     use super::*;
-    use mw_decode::row_at;
+    use mw_tables::row_at;
     use std::test::Fail;
 
     #[test]
@@ -39,11 +39,14 @@ mod tests {
         for (row, name, operation) in [
             (0, "addi", Operation::Adder(AdderRow::Addi)),
             (1, "addis", Operation::Adder(AdderRow::Addis)),
-            (2, "ori", Operation::Logic(LogicRow::Ori)),
-            (3, "b", Operation::Branch(BranchRow::B)),
-            (4, "add", Operation::Adder(AdderRow::Add)),
+            (10, "ori", Operation::Logic(LogicRow::Ori)),
+            (17, "b", Operation::Branch(BranchRow::B)),
+            (43, "add", Operation::Adder(AdderRow::Add)),
+            (44, "subf", Operation::Later),
+            (212, "paddi", Operation::Adder(AdderRow::Paddi)),
+            (223, "pnop", Operation::Hint),
         ] {
-            assert!(rt; row < 5);
+            assert!(rt; row < 224);
             assert_eq!(rt; row_at(row).name, name);
             assert_eq!(rt; operation_at(row), operation, "{name}");
         }

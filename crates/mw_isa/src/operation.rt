@@ -1,6 +1,6 @@
 ghost use Rattle.std.specs.Prelude.{◌≡◌, ◌<◌, slice_get};
 ghost use Rattle.mw_isa.specs.Operations.{operations};
-ghost use Rattle.mw_decode.specs.Rows.{row_count};
+ghost use Rattle.mw_tables.specs.Rows.{row_count};
 
 use crate::memory::MemWhat;
 
@@ -15,8 +15,10 @@ pub enum Operation {
     Branch(BranchRow),
     /// An access to storage.
     Storage(StorageRow),
-    /// A hint, which changes nothing and accesses nothing (dcbt, dcbtst).
+    /// A hint, which changes nothing and accesses nothing (dcbt, dcbtst, pnop).
     Hint,
+    /// One that isn't built yet.
+    Later,
 }
 
 /// The rows that add (Book I, fixed-point arithmetic instructions).
@@ -28,6 +30,8 @@ pub enum AdderRow {
     Addis,
     /// add: RA and RB.
     Add,
+    /// paddi: RA|0, or the prefix's own address, and a signed number of 34 bits.
+    Paddi,
 }
 
 /// The rows that work on single bits (Book I, fixed-point logical instructions).
@@ -47,12 +51,14 @@ pub enum BranchRow {
 /// Where an access finds its effective address, and with it the places of its operands.
 #[derive(Clone, Copy, Debug, PartialEq, Eq)]
 pub enum Address {
-    /// RA|0 and a signed number: RT,D(RA) or RS,D(RA).
+    /// RA|0 and a signed number: RT,D(RA).
     Displaced,
-    /// RA|0 and RB: RT,RA,RB or RS,RA,RB.
+    /// RA|0 and RB: RT,RA,RB.
     Indexed,
     /// RA|0 and RB: RA,RB.
     Block,
+    /// RA|0, or the prefix's own address where R is 1, and a signed number of 34 bits: RT,D(RA),R.
+    Prefixed,
 }
 
 /// A row that accesses storage (Book I, fixed-point storage access instructions; Book II, cache
@@ -71,12 +77,136 @@ pub struct StorageRow {
 
 /// What each row does, in the order of the instruction table.
 #[rattlefmt::skip]
-static OPERATIONS: [Operation; 72] = [
+static OPERATIONS: [Operation; 224] = [
     Operation::Adder(AdderRow::Addi), // addi
     Operation::Adder(AdderRow::Addis), // addis
+    Operation::Later, // addic
+    Operation::Later, // addic.
+    Operation::Later, // subfic
+    Operation::Later, // mulli
+    Operation::Later, // cmpi
+    Operation::Later, // cmpli
+    Operation::Later, // tdi
+    Operation::Later, // twi
     Operation::Logic(LogicRow::Ori), // ori
+    Operation::Later, // oris
+    Operation::Later, // xori
+    Operation::Later, // xoris
+    Operation::Later, // andi.
+    Operation::Later, // andis.
+    Operation::Later, // addpcis
     Operation::Branch(BranchRow::B), // b
+    Operation::Later, // bc
+    Operation::Later, // bclr
+    Operation::Later, // bcctr
+    Operation::Later, // bctar
+    Operation::Later, // crnor
+    Operation::Later, // crandc
+    Operation::Later, // crxor
+    Operation::Later, // crnand
+    Operation::Later, // crand
+    Operation::Later, // creqv
+    Operation::Later, // crorc
+    Operation::Later, // cror
+    Operation::Later, // mcrf
+    Operation::Later, // rlwinm
+    Operation::Later, // rlwnm
+    Operation::Later, // rlwimi
+    Operation::Later, // rldicl
+    Operation::Later, // rldicr
+    Operation::Later, // rldic
+    Operation::Later, // rldimi
+    Operation::Later, // rldcl
+    Operation::Later, // rldcr
+    Operation::Later, // maddhd
+    Operation::Later, // maddhdu
+    Operation::Later, // maddld
     Operation::Adder(AdderRow::Add), // add
+    Operation::Later, // subf
+    Operation::Later, // neg
+    Operation::Later, // addc
+    Operation::Later, // subfc
+    Operation::Later, // adde
+    Operation::Later, // subfe
+    Operation::Later, // addme
+    Operation::Later, // subfme
+    Operation::Later, // addze
+    Operation::Later, // subfze
+    Operation::Later, // mullw
+    Operation::Later, // mulld
+    Operation::Later, // mulhd
+    Operation::Later, // mulhdu
+    Operation::Later, // mulhw
+    Operation::Later, // mulhwu
+    Operation::Later, // divd
+    Operation::Later, // divdu
+    Operation::Later, // divw
+    Operation::Later, // divwu
+    Operation::Later, // divde
+    Operation::Later, // divdeu
+    Operation::Later, // divwe
+    Operation::Later, // divweu
+    Operation::Later, // modsd
+    Operation::Later, // modud
+    Operation::Later, // modsw
+    Operation::Later, // moduw
+    Operation::Later, // addex
+    Operation::Later, // and
+    Operation::Later, // andc
+    Operation::Later, // or
+    Operation::Later, // orc
+    Operation::Later, // xor
+    Operation::Later, // eqv
+    Operation::Later, // nand
+    Operation::Later, // nor
+    Operation::Later, // slw
+    Operation::Later, // srw
+    Operation::Later, // sld
+    Operation::Later, // srd
+    Operation::Later, // sraw
+    Operation::Later, // srawi
+    Operation::Later, // srad
+    Operation::Later, // sradi
+    Operation::Later, // extswsli
+    Operation::Later, // extsb
+    Operation::Later, // extsh
+    Operation::Later, // extsw
+    Operation::Later, // cntlzw
+    Operation::Later, // cntlzd
+    Operation::Later, // cnttzw
+    Operation::Later, // cnttzd
+    Operation::Later, // cntlzdm
+    Operation::Later, // cnttzdm
+    Operation::Later, // popcntb
+    Operation::Later, // popcntw
+    Operation::Later, // popcntd
+    Operation::Later, // prtyw
+    Operation::Later, // prtyd
+    Operation::Later, // brh
+    Operation::Later, // brw
+    Operation::Later, // brd
+    Operation::Later, // pdepd
+    Operation::Later, // pextd
+    Operation::Later, // cfuged
+    Operation::Later, // bpermd
+    Operation::Later, // cmpb
+    Operation::Later, // cmp
+    Operation::Later, // cmpl
+    Operation::Later, // tw
+    Operation::Later, // td
+    Operation::Later, // isel
+    Operation::Later, // mfcr
+    Operation::Later, // mfocrf
+    Operation::Later, // mtcrf
+    Operation::Later, // mtocrf
+    Operation::Later, // setb
+    Operation::Later, // setbc
+    Operation::Later, // setbcr
+    Operation::Later, // setnbc
+    Operation::Later, // setnbcr
+    Operation::Later, // cmprb
+    Operation::Later, // cmpeqb
+    Operation::Later, // mcrxrx
     Operation::Storage(StorageRow { what: MemWhat::Load { signed: false, reversed: false, reserve: false }, len: 4, address: Address::Displaced, update: false }), // lwz
     Operation::Storage(StorageRow { what: MemWhat::Load { signed: false, reversed: false, reserve: false }, len: 4, address: Address::Displaced, update: true }), // lwzu
     Operation::Storage(StorageRow { what: MemWhat::Load { signed: false, reversed: false, reserve: false }, len: 1, address: Address::Displaced, update: false }), // lbz
@@ -144,6 +274,34 @@ static OPERATIONS: [Operation; 72] = [
     Operation::Hint, // dcbt
     Operation::Storage(StorageRow { what: MemWhat::Icbi, len: 1, address: Address::Block, update: false }), // icbi
     Operation::Storage(StorageRow { what: MemWhat::Zero, len: 64, address: Address::Block, update: false }), // dcbz
+    Operation::Later, // sc
+    Operation::Later, // rfid
+    Operation::Later, // hrfid
+    Operation::Later, // isync
+    Operation::Later, // sync
+    Operation::Later, // eieio
+    Operation::Later, // tlbsync
+    Operation::Later, // mfmsr
+    Operation::Later, // mtmsr
+    Operation::Later, // mtmsrd
+    Operation::Later, // tlbie
+    Operation::Later, // tlbiel
+    Operation::Later, // mfspr
+    Operation::Later, // mtspr
+    Operation::Later, // mftb
+    Operation::Later, // darn
+    Operation::Adder(AdderRow::Paddi), // paddi
+    Operation::Storage(StorageRow { what: MemWhat::Load { signed: false, reversed: false, reserve: false }, len: 4, address: Address::Prefixed, update: false }), // plwz
+    Operation::Storage(StorageRow { what: MemWhat::Load { signed: false, reversed: false, reserve: false }, len: 1, address: Address::Prefixed, update: false }), // plbz
+    Operation::Storage(StorageRow { what: MemWhat::Store { reversed: false }, len: 4, address: Address::Prefixed, update: false }), // pstw
+    Operation::Storage(StorageRow { what: MemWhat::Store { reversed: false }, len: 1, address: Address::Prefixed, update: false }), // pstb
+    Operation::Storage(StorageRow { what: MemWhat::Load { signed: false, reversed: false, reserve: false }, len: 2, address: Address::Prefixed, update: false }), // plhz
+    Operation::Storage(StorageRow { what: MemWhat::Load { signed: true, reversed: false, reserve: false }, len: 2, address: Address::Prefixed, update: false }), // plha
+    Operation::Storage(StorageRow { what: MemWhat::Store { reversed: false }, len: 2, address: Address::Prefixed, update: false }), // psth
+    Operation::Storage(StorageRow { what: MemWhat::Load { signed: true, reversed: false, reserve: false }, len: 4, address: Address::Prefixed, update: false }), // plwa
+    Operation::Storage(StorageRow { what: MemWhat::Load { signed: false, reversed: false, reserve: false }, len: 8, address: Address::Prefixed, update: false }), // pld
+    Operation::Storage(StorageRow { what: MemWhat::Store { reversed: false }, len: 8, address: Address::Prefixed, update: false }), // pstd
+    Operation::Hint, // pnop
 ];
 
 /// What the row at a place of the instruction table does (Book I, fixed-point and branch instructions;

@@ -1,29 +1,34 @@
-use Rattle.mw_decode.proofs.Ranges.{IsInsn-row}
 use Rattle.std.proofs.Common.{sym, subst}
+use Rattle.mw_decode.proofs.Ranges.{IsInsn-row}
 use Rattle.mw_isa.specs.Access.{IsSized, OnMemory}
 use Rattle.mw_isa.proofs.AccessLaws.{storage-sized}
-use Rattle.mw_isa.proofs.RowLaws.{ready, adder-ready, logic-ready, branch-ready, placed}
+use Rattle.mw_isa.proofs.RowLaws.{ready}
 use Rattle.mw_isa.specs.declared.operation.Operation.TheVariants.{Adder, Logic, Branch, Storage}
 use Rattle.mw_exec.proofs.unit.exec.Goals as goal
 
 pub operation_at-requires : goal.operation_at-requires
-operation_at-requires c = IsInsn-row c.args.insn.now c.requires
+operation_at-requires c = IsInsn-row c.args.insn.now c.requires.insn
 
-pub add-requires : goal.add-requires
-add-requires c =
-    adder-ready c.in-Adder.row c.args.insn.now (ready c.args.insn.now (Adder c.in-Adder.row) c.requires c.in-Adder.ensures)
+pub add-requires-clause-row : goal.add-requires-clause-row
+add-requires-clause-row c = IsInsn-row c.args.insn.now c.requires.insn
 
-pub combine-requires : goal.combine-requires
-combine-requires c =
-    logic-ready c.in-Logic.row c.args.insn.now (ready c.args.insn.now (Logic c.in-Logic.row) c.requires c.in-Logic.ensures)
+pub combine-requires-clause-row : goal.combine-requires-clause-row
+combine-requires-clause-row c = IsInsn-row c.args.insn.now c.requires.insn
+
+pub behind-requires : goal.behind-requires
+behind-requires c = IsInsn-row c.args.insn.now c.requires.insn
+
+pub add-requires-clause-ready : goal.add-requires-clause-ready
+add-requires-clause-ready c = ready c.args.insn.now (Adder c.in-Adder.row) c.requires.insn c.in-Adder.ensures
+
+pub combine-requires-clause-ready : goal.combine-requires-clause-ready
+combine-requires-clause-ready c = ready c.args.insn.now (Logic c.in-Logic.row) c.requires.insn c.in-Logic.ensures
 
 pub branch-row-requires : goal.branch-row-requires
-branch-row-requires c =
-    branch-ready c.in-Branch.row c.args.insn.now (ready c.args.insn.now (Branch c.in-Branch.row) c.requires c.in-Branch.ensures)
+branch-row-requires c = ready c.args.insn.now (Branch c.in-Branch.row) c.requires.insn c.in-Branch.ensures
 
 pub access-requires : goal.access-requires
-access-requires c =
-    placed c.in-Storage.row.address c.in-Storage.row.what c.args.insn.now (ready c.args.insn.now (Storage c.in-Storage.row) c.requires c.in-Storage.ensures)
+access-requires c = ready c.args.insn.now (Storage c.in-Storage.row) c.requires.insn c.in-Storage.ensures
 
 pub returns-in-Storage-clause-sized : goal.returns-in-Storage-clause-sized
 returns-in-Storage-clause-sized c =
