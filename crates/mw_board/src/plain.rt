@@ -2,7 +2,7 @@ ghost use Rattle.std.specs.Prelude.{◌≡◌, ◌<◌, length, true, Some, is_s
 ghost use Rattle.mw_decode.specs.Decode.{IsInsn, is_prefix};
 ghost use Rattle.mw_isa.specs.Fetch.{fetched_at, suffix_at};
 ghost use Rattle.mw_tables.specs.Rows.{row_count};
-ghost use Rattle.mw_isa.specs.Execute.{operands_of, operands_by, sources_of, storage_sources, stored_place, operand_of, content_of, set_targets, set_target, is_built_row};
+ghost use Rattle.mw_isa.specs.Execute.{operands_of, operands_by, sources_of, storage_sources, stored_place, operand_of, content_of, set_targets, set_target};
 ghost use Rattle.mw_isa.specs.Shaped.{IsPlaced, IsReady, IsRegister};
 ghost use Rattle.mw_isa.specs.State.{seen};
 ghost use Rattle.mw_isa.specs.Step.{after_of, is_built, is_built_outcome, is_cut, next_of, written};
@@ -12,7 +12,7 @@ ghost use Rattle.mw_board.specs.Plain.{Turns};
 use crate::access::{access, can_access, real, set_gpr};
 use mw_bus::Ram;
 use mw_decode::{Decoded, Insn, decode, is_prefix};
-use mw_exec::{behind, exec};
+use mw_exec::{behind, exec, has_built_row};
 use mw_isa::{
     AdderRow, Address, BranchRow, Event, LogicRow, MemWhat, Operands, Operation, Outcome, Regs, Slot,
     State, Target, operation_at,
@@ -224,24 +224,9 @@ fn has_built_outcome(outcome: &Outcome) -> bool
     }
 }
 
-/// Whether an instruction's row is built.
-fn has_built_row(insn: &Insn) -> bool
-    requires { insn.now.row < row_count }
-    ensures { result ≡ is_built_row insn.now }
-{
-    match operation_at(insn.row) {
-        Operation::Adder(_) => true,
-        Operation::Logic(_) => true,
-        Operation::Branch(_) => true,
-        Operation::Storage(_) => true,
-        Operation::Hint => true,
-        Operation::Later => false,
-    }
-}
-
 /// Whether an instruction is built: its row is, and OE, Rc and LK are 0.
 fn has_built_form(insn: &Insn) -> bool
-    requires { insn.now.row < row_count }
+    requires { IsInsn insn.now }
     ensures { result ≡ is_built (Decoded.Insn insn.now) }
 {
     has_built_row(insn) && !insn.oe && !insn.rc && !insn.lk

@@ -8,6 +8,21 @@ use crate::{adder, branching, logic, storage};
 use mw_decode::Insn;
 use mw_isa::{Operands, Operation, Outcome, operation_at};
 
+/// Whether an instruction's row is built, so that `exec` can be asked.
+pub fn has_built_row(insn: &Insn) -> bool
+    requires { IsInsn insn.now }
+    ensures { result ≡ is_built_row insn.now }
+{
+    match operation_at(insn.row) {
+        Operation::Adder(_) => true,
+        Operation::Logic(_) => true,
+        Operation::Branch(_) => true,
+        Operation::Storage(_) => true,
+        Operation::Hint => true,
+        Operation::Later => false,
+    }
+}
+
 /// What an instruction at the effective address `cia` comes to, from the registers that it reads: what
 /// it writes, and the address of the next one (Book I). Its row has to be built. OE, Rc and LK aren't
 /// looked at: the forms that have them are for the caller to refuse.

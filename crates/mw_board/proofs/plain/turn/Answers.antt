@@ -7,9 +7,6 @@ use Rattle.mw_board.proofs.PlainLemmas.{turns-cut, turns-none, turns-stopped, tu
 use Rattle.mw_board.proofs.plain.turn.Goals as goal
 use Rattle.mw_decode.proofs.Ranges.{IsInsn-row}
 
-pub has_built_form-requires : goal.has_built_form-requires
-has_built_form-requires c = IsInsn-row c.in-Insn.insn c.in-Insn.ensures.insn
-
 pub retire-requires-clause-row : goal.retire-requires-clause-row
 retire-requires-clause-row c = IsInsn-row c.in-Insn.insn c.in-Insn.ensures.insn
 
