@@ -1,0 +1,5 @@
+pub mod NumberLemmas
+pub mod PieceLemmas
+pub mod LineLemmas
+pub mod SpanLemmas
+pub mod TokenLemmas
