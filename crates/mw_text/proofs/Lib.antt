@@ -3,3 +3,4 @@ pub mod PieceLemmas
 pub mod LineLemmas
 pub mod SpanLemmas
 pub mod TokenLemmas
+pub mod TextLemmas

@@ -44,7 +44,8 @@ tokens_from-spans (byte ∷ rest) zero place high within ends =
     let there = tokens_from-spans rest (more_of piece) (place + 1) high (omega arith) (omega arith) in
     let same : place + 1 + more_of piece ≡ place + suc (more_of piece) = omega arith in
     let behind = subst (λ (low : ℕ). IfOk (tokens_from rest (more_of piece) (place + 1)) (AreSpans low high)) same there in
-    let here = in_front-spans piece place (suc (more_of piece)) high _ _ fits refl (omega arith) behind in
+    let others : Result (List Token) ℕ = tokens_from rest (more_of piece) (place + 1) in
+    let here = in_front-spans piece place (suc (more_of piece)) high (length (byte ∷ rest)) others fits refl (omega arith) behind in
     let start : place ≡ place + 0 = omega arith in
     subst (λ (low : ℕ). IfOk (in_front piece place (tokens_from rest (more_of piece) (place + 1))) (AreSpans low high)) start here
 

@@ -4,6 +4,7 @@ use Rattle.mw_text.specs.declared.token.Token.{Token}
 use Rattle.mw_text.proofs.LineLemmas.{with_tokens, over-blank, over-token, at-comment, at-bad, at-end}
 use Rattle.mw_text.proofs.SpanLemmas.{tokens_of-spans}
 use Rattle.mw_text.proofs.TokenLemmas.{tokens_of-tokens, tokens_of-refused}
+use Rattle.mw_text.proofs.TextLemmas.{tokens_of-longest}
 use Rattle.mw_text.proofs.line.read_line.Goals as goal
 
 pub loop-at-preserved-in-Blank : goal.loop-at-preserved-in-Blank
@@ -44,3 +45,9 @@ returns-in-Bad-clause-refused c = tokens_of-refused _ _ (at-bad _ _ _ _ c.loop-a
 
 pub returns-clause-each : goal.returns-clause-each
 returns-clause-each c = tokens_of-tokens _ _ (at-end _ _ _ _ c.loop-at-test.false c.loop-at.invariant.same)
+
+pub returns-in-Comment-clause-longest : goal.returns-in-Comment-clause-longest
+returns-in-Comment-clause-longest c = tokens_of-longest _ _ (at-comment _ _ _ _ c.loop-at-test.true c.in-Comment.ensures.value c.loop-at.invariant.same)
+
+pub returns-clause-longest : goal.returns-clause-longest
+returns-clause-longest c = tokens_of-longest _ _ (at-end _ _ _ _ c.loop-at-test.false c.loop-at.invariant.same)
