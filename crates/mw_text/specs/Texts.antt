@@ -1,4 +1,4 @@
--- What a token is by itself, and that none at the place of one of a line is longer. The numbers here may have any size.
+-- What a token is by itself, and that those of a line are the longest at their places. The numbers here may have any size.
 use Rattle.std.specs.Prelude.{◌≡◌, ℕ, ◌-◌, ◌<◌, ◌≤◌, ◌==◌, nat_lt, Bool, true, false, ◌&&◌, ◌||◌, List, [], ◌∷◌, length, take, drop, All}
 use Rattle.std.specs.List.{list_all}
 use Rattle.std.specs.Char.{is_ascii_digit, is_ascii_hexdigit}
@@ -27,10 +27,11 @@ is_mark (byte ∷ other ∷ rest) = false
 abbrev pub is_token : List ℕ → Bool
 is_token text = is_word text || is_decimal text || is_hexadecimal text || is_mark text
 
--- no more bytes of the rest than these are a token
-abbrev pub IsLongest : List ℕ → ℕ → Type 0
-IsLongest rest size = (more : ℕ) → size < more → more ≤ length rest → is_token (take more rest) ≡ false
+-- so many bytes of the rest are a token, and no more of them are
+pub record IsLongest (rest : List ℕ) (size : ℕ) : Type 0 where
+  pub is : is_token (take size rest) ≡ true
+  pub longest : (more : ℕ) → size < more → more ≤ length rest → is_token (take more rest) ≡ false
 
--- no longer text at a token's place is a token
+-- each token's text is a token, and no longer text at its place is
 abbrev pub AreLongest : List ℕ → List Token → Type 0
 AreLongest line tokens = All (λ (token : Token). IsLongest (drop token.from line) (token.to - token.from)) tokens
