@@ -1,10 +1,11 @@
 -- What the tokens of a line are, of the definitions alone.
-use Rattle.std.proofs.Common.{◌≡◌, ℕ, zero, suc, ◌+◌, ◌<◌, ◌≤◌, List, [], ◌∷◌, length, Result, Ok, Err, IfOk, arith, refl, subst}
+use Rattle.std.proofs.Common.{get_or, ◌≡◌, ℕ, zero, suc, ◌+◌, ◌<◌, ◌≤◌, List, [], ◌∷◌, length, Result, Ok, Err, IfOk, arith, refl, subst}
+use Rattle.std.specs.List.{All}
 use Rattle.mw_text.specs.declared.token.Token.{Token}
 use Rattle.mw_text.specs.declared.piece.Piece.{Piece}
 use Rattle.mw_text.specs.declared.piece.Piece.TheVariants.{Blank, Comment, Found, Bad}
 use Rattle.mw_text.specs.Pieces.{piece_at, FitsPiece}
-use Rattle.mw_text.specs.Lines.{in_front, more_of, tokens_from, tokens_of, AreSpans}
+use Rattle.mw_text.specs.Lines.{IsSpan, in_front, more_of, tokens_from, tokens_of, AreSpans}
 use Rattle.mw_text.proofs.PieceLemmas.{piece_at-fits}
 
 -- spans that rise from a place rise from those before it
@@ -54,3 +55,20 @@ pub tokens_of-spans : (line : List ℕ) (tokens : List Token) → tokens_of line
 tokens_of-spans line tokens are =
     let all = tokens_from-spans line 0 0 (length line) (omega arith) (omega arith) in
     subst (λ (r : Result (List Token) ℕ). IfOk r (AreSpans 0 (length line))) are all
+
+-- spans that rise leave their bounds in order
+AreSpans-bounds : (low high : ℕ) (tokens : List Token) → AreSpans low high tokens → low ≤ high
+AreSpans-bounds low high [] are = are
+AreSpans-bounds low high (token ∷ others) are =
+    let behind = AreSpans-bounds token.to high others are.2 in
+    omega arith
+
+-- each of spans that rise has a byte, and ends by the bound
+pub AreSpans-at : (low high : ℕ) (tokens : List Token) → AreSpans low high tokens → (k : ℕ) (d : Token) → k < length tokens → IsSpan high (get_or tokens k d)
+AreSpans-at low high [] are k d below = absurd (omega arith)
+AreSpans-at low high (token ∷ others) are zero d below = (are.1, AreSpans-bounds token.to high others are.2)
+AreSpans-at low high (token ∷ others) are (suc k) d below = AreSpans-at token.to high others are.2 k d (omega arith)
+
+-- each of a line's tokens has a byte, and ends in the line
+pub tokens_of-within : (line : List ℕ) (tokens : List Token) → tokens_of line ≡ Ok tokens → All (IsSpan (length line)) tokens
+tokens_of-within line tokens are = AreSpans-at 0 (length line) tokens (tokens_of-spans line tokens are)

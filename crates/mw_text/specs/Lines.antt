@@ -47,6 +47,10 @@ abbrev pub AreSpans : ℕ → ℕ → List Token → Type 0
 AreSpans low high [] = low ≤ high
 AreSpans low high (token ∷ others) = (low ≤ token.from) × (token.from < token.to) × AreSpans token.to high others
 
+-- a token has a byte, and ends by `high`
+abbrev pub IsSpan : ℕ → Token → Type 0
+IsSpan high token = (token.from < token.to) × (token.to ≤ high)
+
 -- only blanks stand between two places of a line
 abbrev pub are_blank : List ℕ → ℕ → ℕ → Bool
 are_blank line low high = list_all is_blank (take (high - low) (drop low line))

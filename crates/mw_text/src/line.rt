@@ -1,6 +1,6 @@
-ghost use Rattle.std.specs.Prelude.{◌≡◌, ◌^◌, ◌<◌, length, Ok, Err, IfOk, IfErr};
+ghost use Rattle.std.specs.Prelude.{◌≡◌, ◌^◌, ◌<◌, length, All, Ok, Err, IfOk, IfErr};
 ghost use Rattle.mw_text.specs.declared.line.LineFault.TheVariants.{NoMemory as LineNoMemory};
-ghost use Rattle.mw_text.specs.Lines.{tokens_of, AreSpans, AreTokens, IfBad, IsRefused};
+ghost use Rattle.mw_text.specs.Lines.{tokens_of, AreSpans, AreTokens, IfBad, IsRefused, IsSpan};
 ghost use Rattle.mw_text.specs.Texts.{AreLongest};
 
 use crate::piece::{Piece, read_piece};
@@ -36,6 +36,7 @@ pub fn read_line(alloc: Global, line: &[u8]) -> Result<Tokens, LineFault>
     ensures bad { IfErr result (λ fault. IfBad fault (λ column. tokens_of line.now ≡ Err column)) }
     ensures refused { IfErr result (λ fault. IfBad fault (IsRefused line.now)) }
     ensures spans { IfOk result (AreSpans 0 (length line.now)) }
+    ensures within { IfOk result (All (IsSpan (length line.now))) }
     ensures longest { IfOk result (AreLongest line.now) }
     ensures each { IfOk result (AreTokens line.now 0) }
 {

@@ -2,7 +2,7 @@ use Rattle.std.proofs.Common.{ℕ, ◌+◌, List, ap, ◌∙◌, drop, arith, le
 use Rattle.mw_text.specs.Lines.{tokens_from}
 use Rattle.mw_text.specs.declared.token.Token.{Token}
 use Rattle.mw_text.proofs.LineLemmas.{with_tokens, over-blank, over-token, at-comment, at-bad, at-end}
-use Rattle.mw_text.proofs.SpanLemmas.{tokens_of-spans}
+use Rattle.mw_text.proofs.SpanLemmas.{tokens_of-spans, tokens_of-within}
 use Rattle.mw_text.proofs.TokenLemmas.{tokens_of-tokens, tokens_of-refused}
 use Rattle.mw_text.proofs.TextLemmas.{tokens_of-longest}
 use Rattle.mw_text.proofs.line.read_line.Goals as goal
@@ -51,3 +51,9 @@ returns-in-Comment-clause-longest c = tokens_of-longest _ _ (at-comment _ _ _ _ 
 
 pub returns-clause-longest : goal.returns-clause-longest
 returns-clause-longest c = tokens_of-longest _ _ (at-end _ _ _ _ c.loop-at-test.false c.loop-at.invariant.same)
+
+pub returns-in-Comment-clause-within : goal.returns-in-Comment-clause-within
+returns-in-Comment-clause-within c = tokens_of-within _ _ (at-comment _ _ _ _ c.loop-at-test.true c.in-Comment.ensures.value c.loop-at.invariant.same)
+
+pub returns-clause-within : goal.returns-clause-within
+returns-clause-within c = tokens_of-within _ _ (at-end _ _ _ _ c.loop-at-test.false c.loop-at.invariant.same)
