@@ -45,9 +45,11 @@ executed state insn operands outcome o e = ap (λ (v : Operands). exec_of insn v
 
 -- an instruction that isn't built by what it comes to
 pub turns-stopped : (state : State) (word : ℕ) (suffix : Option ℕ) (insn : Insn) (operands : Operands) (outcome : Outcome) → Met state word suffix (Is insn) → is_built (Is insn) ≡ true → operands ≡ operands_of insn state.regs → exec_of insn operands state.regs.cia ≡ Some outcome → is_built_outcome (Some outcome) ≡ false → Turns None state state
-turns-stopped state word suffix insn operands outcome m built o e stopped =
-    (builds-known insn outcome state (met state word suffix (Is insn) m) (executed state insn operands outcome o e)
-    ∙ fails_behind (not (is_cut (fetched state).word state.regs.cia)) _ (ap₂ (λ (a : Bool) (b : Bool). a && b) built stopped), refl)
+turns-stopped state word suffix insn operands outcome m built o e stopped = (
+  builds-known insn outcome state (met state word suffix (Is insn) m) (executed state insn operands outcome o e)
+      ∙ fails_behind (not (is_cut (fetched state).word state.regs.cia)) _ (ap₂ (λ (a : Bool) (b : Bool). a && b) built stopped),
+  refl,
+)
 
 -- an instruction that is built
 pub turns-some : (state after : State) (word : ℕ) (suffix : Option ℕ) (insn : Insn) (operands : Operands) (outcome : Outcome) (cycle : ℕ) → Met state word suffix (Is insn) → is_cut word state.regs.cia ≡ false → is_built (Is insn) ≡ true → operands ≡ operands_of insn state.regs → exec_of insn operands state.regs.cia ≡ Some outcome → is_built_outcome (Some outcome) ≡ true → after ≡ after_of (Some insn) (Some outcome) state.regs.cia state → cycle ≡ cycle_of state.devices → Turns (Some (Retire cycle state.regs.cia word suffix)) state after

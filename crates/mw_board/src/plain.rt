@@ -14,8 +14,8 @@ use mw_bus::Ram;
 use mw_decode::{Decoded, Insn, decode, is_prefix};
 use mw_exec::{behind, exec, has_built_row};
 use mw_isa::{
-    AdderRow, Address, BranchRow, Event, LogicRow, MemWhat, Operands, Operation, Outcome, Regs, Slot,
-    State, Target, operation_at,
+    AdderRow, Address, BranchRow, Event, LogicRow, MemWhat, Operands, Operation, Outcome, Regs,
+    Slot, State, Target, operation_at,
 };
 
 /// A word, with the one behind it where it is a prefix.

@@ -57,14 +57,23 @@ struct Refused(&'static [u32], u64, RunFault);
 const AT_ONCE: RunFault = RunFault::Unbuilt { cycle: 0, cia: 0 };
 
 #[rattlefmt::skip]
-static REFUSED: [Refused; 7] = [
+static REFUSED: [Refused; 15] = [
     Refused(&[], 1, AT_ONCE),
     Refused(&[0x3860_0005], 2, RunFault::Unbuilt { cycle: 1, cia: 4 }), // addi r3,0,5
     Refused(&[0x4800_0008, 0, 0x7ca3_2615], 9, RunFault::Unbuilt { cycle: 1, cia: 8 }), // b 8, addo. r5,r3,r4
     Refused(&[0x4800_0001], 1, AT_ONCE), // bl 0
     Refused(&[0x7ca3_2215], 1, AT_ONCE), // add. r5,r3,r4
     Refused(&[0x7ca3_2614], 1, AT_ONCE), // addo r5,r3,r4
-    Refused(&[0x0600_0000, 0x3860_0005], 1, AT_ONCE), // paddi r3,0,5
+    Refused(&[0x7ca3_2050], 1, AT_ONCE), // subf r5,r3,r4, a row that isn't built yet
+    Refused(&[0x4400_0002], 1, AT_ONCE), // sc
+    Refused(&[0xc820_0000], 1, AT_ONCE), // lfd f1,0(0), of a facility that isn't there
+    Refused(&[0xb860_0000], 1, AT_ONCE), // lmw r3,0(0), which raises alignment
+    Refused(&[0x0613_ffff, 0x3864_fffc], 1, AT_ONCE), // paddi r3,r4,-4,1, relative with a base
+    Refused(&[0x0700_0001, 0], 1, AT_ONCE), // a prefix that is none
+    Refused(&[0x0400_0000, 0x3860_0005], 1, AT_ONCE), // addi behind a prefix of type 0
+    Refused(&[0x4800_003c, 0, 0, 0, 0, 0, 0, 0, 0, 0, 0, 0, 0, 0, 0, 0x0600_0000, 0x3860_0005], 9,
+        RunFault::Unbuilt { cycle: 1, cia: 60 }), // b 60, and paddi r3,0,5 across two blocks
+    Refused(&[0x0600_0000, 0x9060_0041, 0x0600_0001, 0x9060_0000], 3, RunFault::Unbuilt { cycle: 2, cia: 16 }), // pstw twice
 ];
 
 #[test]
@@ -91,7 +100,7 @@ fn what_is_not_built_is_refused(rt: HostRuntime) -> Result<(), Fail> {
 struct Program(&'static [u32], u64, u64, &'static [(usize, u64)]);
 
 #[rattlefmt::skip]
-static PROGRAMS: [Program; 4] = [
+static PROGRAMS: [Program; 7] = [
     // addi r3,0,5, and zeros behind it that aren't reached
     Program(&[0x3860_0005], 1, 4, &[(3, 5)]),
     // addis r3,0,4660; ori r3,r3,22136; addi r4,0,-1; add r5,r3,r4; b .
@@ -101,6 +110,14 @@ static PROGRAMS: [Program; 4] = [
     Program(&[0x3800_0007, 0x3860_0005, 0x7c80_1a14, 0x4800_0006], 4, 4, &[(0, 7), (3, 5), (4, 12)]),
     // b 12; a zero; ba -4; b -4; to a word outside of RAM, which isn't reached
     Program(&[0x4800_000c, 0, 0x4bff_fffe, 0x4bff_fffc], 3, 0xffff_ffff_ffff_fffc, &[(3, 0)]),
+    // paddi r3,0,-8589934592,1; b .
+    Program(&[0x0612_0000, 0x3860_0000, 0x4800_0000], 5, 8, &[(3, 0xffff_fffe_0000_0000)]),
+    // b 52; at 52 paddi r3,0,5,0, which ends the block; addi r4,r3,1; b .
+    Program(&[0x4800_0034, 0, 0, 0, 0, 0, 0, 0, 0, 0, 0, 0, 0, 0x0600_0000, 0x3860_0005, 0x3883_0001, 0x4800_0000], 6, 64,
+        &[(3, 5), (4, 6)]),
+    // paddi r3,0,24,1; pld r4,16(0),1; pnop with a suffix that would be a branch; plwa r5,-4(r3),0; b .
+    Program(&[0x0610_0000, 0x3860_0020, 0x0410_0000, 0xe480_0018, 0x0700_0000, 0x4bff_fffc, 0x0403_ffff, 0xa4a3_fffc, 0x4800_0000], 8, 32,
+        &[(3, 32), (4, 0x4800_0000), (5, 0xffff_ffff_a4a3_fffc)]),
 ];
 
 #[test]
