@@ -1,7 +1,7 @@
 -- The word, or the prefix and the suffix, of an instruction: the fixed bits of its row, its operands and its forms, and zeros elsewhere (Book I, instruction formats).
-use Rattle.std.specs.Prelude.{ℕ, ◌+◌, ◌*◌, ◌/◌, ◌%◌, ◌^◌, Bool, List, [], ◌∷◌, ◌++◌, ℤ, pos, Option, Some, None, slice_get, if◌then◌else◌, bit_or}
+use Rattle.std.specs.Prelude.{ℕ, ◌+◌, ◌*◌, ◌/◌, ◌%◌, ◌^◌, Bool, true, false, List, [], ◌∷◌, ◌++◌, ℤ, pos, Option, Some, None, slice_get, if◌then◌else◌, bit_or}
 use Rattle.mw_tables.specs.declared.row.PrefixKind.{PrefixKind}
-use Rattle.mw_tables.specs.declared.row.PrefixKind.TheVariants.{Plain}
+use Rattle.mw_tables.specs.declared.row.PrefixKind.TheVariants.{Plain, Mls, Eight, Nop}
 use Rattle.mw_tables.specs.declared.layout.Layout.{Layout}
 use Rattle.mw_tables.specs.Row.{TableRow, prefix_value}
 use Rattle.mw_tables.specs.Rows.{table, layouts}

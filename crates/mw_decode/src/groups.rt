@@ -374,74 +374,15 @@ static EIGHT: [Group; 64] = [
     NONE, // 63
 ];
 
+/// The row of pnop, whose suffix is any.
+const PNOP: Group = Group {
+    shift: 0,
+    mask: 0,
+    places: &[223],
+};
+
 /// The groups of suffixes behind the prefix of pnop, one for each primary opcode.
-#[rattlefmt::skip]
-static NOP: [Group; 64] = [
-    Group { shift: 0, mask: 0, places: &[223] }, // 0
-    Group { shift: 0, mask: 0, places: &[223] }, // 1
-    Group { shift: 0, mask: 0, places: &[223] }, // 2
-    Group { shift: 0, mask: 0, places: &[223] }, // 3
-    Group { shift: 0, mask: 0, places: &[223] }, // 4
-    Group { shift: 0, mask: 0, places: &[223] }, // 5
-    Group { shift: 0, mask: 0, places: &[223] }, // 6
-    Group { shift: 0, mask: 0, places: &[223] }, // 7
-    Group { shift: 0, mask: 0, places: &[223] }, // 8
-    Group { shift: 0, mask: 0, places: &[223] }, // 9
-    Group { shift: 0, mask: 0, places: &[223] }, // 10
-    Group { shift: 0, mask: 0, places: &[223] }, // 11
-    Group { shift: 0, mask: 0, places: &[223] }, // 12
-    Group { shift: 0, mask: 0, places: &[223] }, // 13
-    Group { shift: 0, mask: 0, places: &[223] }, // 14
-    Group { shift: 0, mask: 0, places: &[223] }, // 15
-    Group { shift: 0, mask: 0, places: &[223] }, // 16
-    Group { shift: 0, mask: 0, places: &[223] }, // 17
-    Group { shift: 0, mask: 0, places: &[223] }, // 18
-    Group { shift: 0, mask: 0, places: &[223] }, // 19
-    Group { shift: 0, mask: 0, places: &[223] }, // 20
-    Group { shift: 0, mask: 0, places: &[223] }, // 21
-    Group { shift: 0, mask: 0, places: &[223] }, // 22
-    Group { shift: 0, mask: 0, places: &[223] }, // 23
-    Group { shift: 0, mask: 0, places: &[223] }, // 24
-    Group { shift: 0, mask: 0, places: &[223] }, // 25
-    Group { shift: 0, mask: 0, places: &[223] }, // 26
-    Group { shift: 0, mask: 0, places: &[223] }, // 27
-    Group { shift: 0, mask: 0, places: &[223] }, // 28
-    Group { shift: 0, mask: 0, places: &[223] }, // 29
-    Group { shift: 0, mask: 0, places: &[223] }, // 30
-    Group { shift: 0, mask: 0, places: &[223] }, // 31
-    Group { shift: 0, mask: 0, places: &[223] }, // 32
-    Group { shift: 0, mask: 0, places: &[223] }, // 33
-    Group { shift: 0, mask: 0, places: &[223] }, // 34
-    Group { shift: 0, mask: 0, places: &[223] }, // 35
-    Group { shift: 0, mask: 0, places: &[223] }, // 36
-    Group { shift: 0, mask: 0, places: &[223] }, // 37
-    Group { shift: 0, mask: 0, places: &[223] }, // 38
-    Group { shift: 0, mask: 0, places: &[223] }, // 39
-    Group { shift: 0, mask: 0, places: &[223] }, // 40
-    Group { shift: 0, mask: 0, places: &[223] }, // 41
-    Group { shift: 0, mask: 0, places: &[223] }, // 42
-    Group { shift: 0, mask: 0, places: &[223] }, // 43
-    Group { shift: 0, mask: 0, places: &[223] }, // 44
-    Group { shift: 0, mask: 0, places: &[223] }, // 45
-    Group { shift: 0, mask: 0, places: &[223] }, // 46
-    Group { shift: 0, mask: 0, places: &[223] }, // 47
-    Group { shift: 0, mask: 0, places: &[223] }, // 48
-    Group { shift: 0, mask: 0, places: &[223] }, // 49
-    Group { shift: 0, mask: 0, places: &[223] }, // 50
-    Group { shift: 0, mask: 0, places: &[223] }, // 51
-    Group { shift: 0, mask: 0, places: &[223] }, // 52
-    Group { shift: 0, mask: 0, places: &[223] }, // 53
-    Group { shift: 0, mask: 0, places: &[223] }, // 54
-    Group { shift: 0, mask: 0, places: &[223] }, // 55
-    Group { shift: 0, mask: 0, places: &[223] }, // 56
-    Group { shift: 0, mask: 0, places: &[223] }, // 57
-    Group { shift: 0, mask: 0, places: &[223] }, // 58
-    Group { shift: 0, mask: 0, places: &[223] }, // 59
-    Group { shift: 0, mask: 0, places: &[223] }, // 60
-    Group { shift: 0, mask: 0, places: &[223] }, // 61
-    Group { shift: 0, mask: 0, places: &[223] }, // 62
-    Group { shift: 0, mask: 0, places: &[223] }, // 63
-];
+static NOP: [Group; 64] = [PNOP; 64];
 
 /// The groups of words without a prefix.
 fn plain_groups() -> &'static [Group]

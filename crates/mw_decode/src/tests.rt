@@ -272,7 +272,7 @@ fn alignment(rt: HostRuntime) {
 }
 
 #[test]
-fn forms_past_the_table_are_legal(rt: HostRuntime) {
+fn illegal_by_row_and_operands(rt: HostRuntime) {
     // mftb, the one row whose rule asks for a number
     let illegal = match by_name("mftb") {
         Some(row) => [
