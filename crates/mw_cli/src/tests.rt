@@ -109,6 +109,29 @@ fn words_of(alloc: Global, line: &str) -> Result<Vec<String>, AllocError> {
     Ok(words)
 }
 
+/// paddi r3,0,-8589934592,1 and behind it `b .`: a prefix and its suffix, and a word.
+const PREFIXED: &[u8] = b"\x00\x00\x12\x06\x00\x00\x60\x38\x00\x00\x00\x48";
+
+#[test]
+fn a_suffix_is_printed_behind_its_prefix(rt: HostRuntime) -> Result<(), Fail> {
+    let alloc = rt.alloc();
+    let mut host = SureHost::new(alloc);
+    host.put("img", PREFIXED)?;
+    let mut out = SureSink::new(alloc);
+    let mut err = SureSink::new(alloc);
+    let words = words_of(alloc, "run img --cycles 20000")?;
+    let status = mw_main(alloc, words.as_slice(), &mut host, &mut out, &mut err);
+    assert_eq!(rt; status, Status::Done);
+    let mut text = String::from_str(alloc, "R 0 0000000000000000 06120000 38600000\n")?;
+    for cycle in 1..20000 {
+        writeln!(text, "R {cycle} 0000000000000008 48000000")?;
+    }
+    let r3 = [(3, "fffffffe00000000")];
+    push_state(&mut text, 20000, &r3, "0000000000000008", "7fffb1df", "-")?;
+    assert!(rt; out.as_slice() == text.as_bytes());
+    Ok(())
+}
+
 #[test]
 fn a_run_is_printed_whole(rt: HostRuntime) -> Result<(), Fail> {
     let alloc = rt.alloc();
