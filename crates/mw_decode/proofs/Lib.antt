@@ -1,3 +1,6 @@
 mod Leads
 pub mod InsnLemmas
 pub mod Ranges
+mod EncodeParts
+pub mod EncodeLemmas
+pub mod EncodeBack
