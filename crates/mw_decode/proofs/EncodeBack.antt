@@ -1,4 +1,4 @@
--- Encoding what a word was decoded to gives the word again, where its reserved bits are 0.
+-- What a word that is an instruction has of its row.
 use Rattle.std.proofs.Common.{rules, ◌≡◌, ℕ, ◌+◌, ◌*◌, ◌/◌, ◌%◌, ◌^◌, ◌<◌, Bool, true, false, cond, ◌++◌, slice_get, Option, Some, None, Ok, Err, bit_and, refl, sym, ap, ◌∙◌, subst, arith, lit≤}
 use Rattle.std.specs.Prelude.{IfSome}
 use Rattle.std.proofs.lemmas.Bool.{and_parts, eqb-true}
@@ -24,7 +24,7 @@ use Rattle.mw_decode.specs.Unavailable.{without_row, without_row_prefixed}
 use Rattle.mw_decode.specs.Decode.{OnInsn, place_of, place_behind, insn_of, insn_by, insn_at, insn_or, otherwise, decode_of}
 use Rattle.mw_decode.specs.Encode.{all_operands, words_of, encode_of, number_of, HasNoReserved}
 use Rattle.mw_decode.proofs.EncodeParts.{opening-prefix}
-use Rattle.mw_decode.proofs.EncodeLemmas.{encode_of-at, forms-read}
+use Rattle.mw_decode.proofs.EncodeRows.{encode_of-at, forms-read}
 
 -- what a word is without a row is no instruction
 without_row-none : (word : ℕ) → OnInsn (λ insn. ⊥) (without_row word)
@@ -42,17 +42,17 @@ insn_or-found (Some x) other insn none e = let same : x ≡ insn = cc in ap Some
 insn_or-found None other insn none e = let no_insn = subst (λ d. OnInsn (λ i. ⊥) d) e none in absurd no_insn
 
 -- a word that is an instruction has its code at a place of the table
-decode_of-found : (word : ℕ) (suffix : Option ℕ) (insn : Insn) → decode_of word suffix ≡ Is insn → insn_at (number_of (record { word = word; suffix = suffix })) (place_of word suffix) ≡ Some insn
+pub decode_of-found : (word : ℕ) (suffix : Option ℕ) (insn : Insn) → decode_of word suffix ≡ Is insn → insn_at (number_of (record { word = word; suffix = suffix })) (place_of word suffix) ≡ Some insn
 unfolding decode_of
 decode_of-found word suffix insn e = insn_or-found (insn_at (number_of (record { word = word; suffix = suffix })) (place_of word suffix)) (otherwise word suffix) insn (otherwise-none word suffix) e
 
 -- the instruction of a code, at its place
-record Stands (code : ℕ) (place : ℕ) (insn : Insn) : Type 0 where
-  row : TableRow
-  layout : Layout
-  row_there : slice_get table place ≡ Some row
-  layout_there : slice_get layouts place ≡ Some layout
-  same : insn_of code place row layout ≡ insn
+pub record Stands (code : ℕ) (place : ℕ) (insn : Insn) : Type 0 where
+  pub row : TableRow
+  pub layout : Layout
+  pub row_there : slice_get table place ≡ Some row
+  pub layout_there : slice_get layouts place ≡ Some layout
+  pub same : insn_of code place row layout ≡ insn
 
 if_legal-same : (illegal : Bool) (made insn : Insn) → cond illegal None (Some made) ≡ Some insn → made ≡ insn
 if_legal-same true made insn e = cc
@@ -69,7 +69,8 @@ insn_by-Stands code place (Some row) (Some layout) insn r l e = record {
   same = if_legal-same (is_illegal_form place (operands_in code (fields_of layout))) (insn_of code place row layout) insn e;
 }
 
-insn_at-Stands : (code : ℕ) (found : Option ℕ) (insn : Insn) → insn_at code found ≡ Some insn → (place : ℕ) × (found ≡ Some place) × Stands code place insn
+-- an instruction that a code is stands at a place
+pub insn_at-Stands : (code : ℕ) (found : Option ℕ) (insn : Insn) → insn_at code found ≡ Some insn → (place : ℕ) × (found ≡ Some place) × Stands code place insn
 insn_at-Stands code None insn e = cc
 insn_at-Stands code (Some place) insn e = (place, refl, insn_by-Stands code place (slice_get table place) (slice_get layouts place) insn refl refl e)
 
@@ -176,7 +177,8 @@ all_operands-read code place row layout =
 clear_at : (insn : Insn) (row : TableRow) (layout : Layout) (code : Code) → slice_get table insn.row ≡ Some row → slice_get layouts insn.row ≡ Some layout → HasNoReserved insn code → bit_and (number_of code) (used_bits row layout) ≡ number_of code
 clear_at insn row layout code r l clear = let one = rw r at clear in let both = rw l at one in both
 
-encoded_again : (word : ℕ) (suffix : Option ℕ) (place : ℕ) (row : TableRow) (layout : Layout) → IfSome suffix (λ n. n < 2 ^ 32) → place_of word suffix ≡ Some place → slice_get table place ≡ Some row → slice_get layouts place ≡ Some layout → HasNoReserved (insn_of (number_of (record { word = word; suffix = suffix })) place row layout) (record { word = word; suffix = suffix }) → encode_of (insn_of (number_of (record { word = word; suffix = suffix })) place row layout) ≡ record { word = word; suffix = suffix }
+-- encoding it gives the words again, where their reserved bits are 0
+pub encoded_again : (word : ℕ) (suffix : Option ℕ) (place : ℕ) (row : TableRow) (layout : Layout) → IfSome suffix (λ n. n < 2 ^ 32) → place_of word suffix ≡ Some place → slice_get table place ≡ Some row → slice_get layouts place ≡ Some layout → HasNoReserved (insn_of (number_of (record { word = word; suffix = suffix })) place row layout) (record { word = word; suffix = suffix }) → encode_of (insn_of (number_of (record { word = word; suffix = suffix })) place row layout) ≡ record { word = word; suffix = suffix }
 encoded_again word suffix place row layout below found r l clear =
     let code = number_of (record { word = word; suffix = suffix }) in
     let insn = insn_of code place row layout in
@@ -186,13 +188,3 @@ encoded_again word suffix place row layout below found r l clear =
     ∙ ap (λ zs. words_of row.prefix (code_of row layout zs)) (all_operands-read code place row layout)
     ∙ ap (words_of row.prefix) (code_of-operands_in row layout code sound known.bits ∙ clear_at insn row layout (record { word = word; suffix = suffix }) r l clear)
     ∙ known.words
-
--- encoding an instruction that a word, or a prefix with its suffix, is gives them again, where their reserved bits are 0
-pub encode_of-decoded : (insn : Insn) (word : ℕ) (suffix : Option ℕ) → IfSome suffix (λ n. n < 2 ^ 32) → decode_of word suffix ≡ Is insn → HasNoReserved insn (record { word = word; suffix = suffix }) → encode_of insn ≡ record { word = word; suffix = suffix }
-encode_of-decoded insn word suffix below is clear =
-    let code = number_of (record { word = word; suffix = suffix }) in
-    let found = insn_at-Stands code (place_of word suffix) insn (decode_of-found word suffix insn is) in
-    let stands = found.2 in
-    ap encode_of (sym stands.same)
-    ∙ encoded_again word suffix found.0 stands.row stands.layout below found.1 stands.row_there stands.layout_there
-    (subst (λ (i : Insn). HasNoReserved i (record { word = word; suffix = suffix })) (sym stands.same) clear)

@@ -8,7 +8,8 @@ use Rattle.mw_decode.specs.declared.insn.Decoded.TheVariants.{Insn as Is}
 use Rattle.mw_decode.specs.Decode.{decode_of, is_prefix}
 use Rattle.mw_decode.specs.Encode.{all_operands, words_of, HasNoReserved}
 use Rattle.mw_decode.proofs.Ranges.{IsInsn-row, IsInsn-operands}
-use Rattle.mw_decode.proofs.EncodeLemmas.{IsInsn-at, code_of-written, code_of-room, encode_of-at, encode_of-decodes, encode_of-prefix, encode_of-reserved}
+use Rattle.mw_decode.proofs.EncodeRows.{IsInsn-at, code_of-written, code_of-room, encode_of-at}
+use Rattle.mw_decode.proofs.EncodeLemmas.{encode_of-decodes, encode_of-prefix, encode_of-reserved}
 use Rattle.mw_decode.proofs.encoder.encode.Goals as goal
 
 pub row_at-row-requires : goal.row_at-row-requires
