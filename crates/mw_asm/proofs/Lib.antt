@@ -1,0 +1,17 @@
+pub mod ReadingLemmas
+pub mod ValuesLemmas
+pub mod LineLemmas
+pub mod ItemLemmas
+pub mod MnemonicLemmas
+pub mod MeaningLemmas
+pub mod OperandLemmas
+mod IndexLemmas
+pub mod LabelLemmas
+pub mod ConversionLemmas
+pub mod InstructionLemmas
+pub mod ImageLemmas
+pub mod CutLemmas
+pub mod PassLemmas
+pub mod SecondLemmas
+pub mod AssembledLemmas
+pub mod SourceLemmas

@@ -1,0 +1,27 @@
+//! The assembler: from a source to the bytes of an image.
+#![tactic(auto)]
+
+mod assembler;
+mod data;
+mod expression;
+mod fault;
+mod image;
+mod instruction;
+mod item;
+mod labels;
+mod line;
+mod mnemonic;
+mod operands;
+mod passes;
+mod reading;
+mod spelling;
+mod statement;
+#[cfg(test)]
+mod tests;
+mod value;
+mod values;
+#[cfg(test)]
+mod vectors;
+
+pub use assembler::assemble;
+pub use fault::{AsmFault, What};
