@@ -57,7 +57,7 @@ struct Refused(&'static [u32], u64, RunFault);
 const AT_ONCE: RunFault = RunFault::Unbuilt { cycle: 0, cia: 0 };
 
 #[rattlefmt::skip]
-static REFUSED: [Refused; 15] = [
+static REFUSED: [Refused; 16] = [
     Refused(&[], 1, AT_ONCE),
     Refused(&[0x3860_0005], 2, RunFault::Unbuilt { cycle: 1, cia: 4 }), // addi r3,0,5
     Refused(&[0x4800_0008, 0, 0x7ca3_2615], 9, RunFault::Unbuilt { cycle: 1, cia: 8 }), // b 8, addo. r5,r3,r4
@@ -73,6 +73,8 @@ static REFUSED: [Refused; 15] = [
     Refused(&[0x0400_0000, 0x3860_0005], 1, AT_ONCE), // addi behind a prefix of type 0
     Refused(&[0x4800_003c, 0, 0, 0, 0, 0, 0, 0, 0, 0, 0, 0, 0, 0, 0, 0x0600_0000, 0x3860_0005], 9,
         RunFault::Unbuilt { cycle: 1, cia: 60 }), // b 60, and paddi r3,0,5 across two blocks
+    Refused(&[0x4800_003c, 0, 0, 0, 0, 0, 0, 0, 0, 0, 0, 0, 0, 0, 0, 0x0500_0000, 0x3860_0005], 9,
+        RunFault::Unbuilt { cycle: 1, cia: 60 }), // b 60, and a prefix that is none across two blocks
     Refused(&[0x0600_0000, 0x9060_0041, 0x0600_0001, 0x9060_0000], 3, RunFault::Unbuilt { cycle: 2, cia: 16 }), // pstw twice
 ];
 

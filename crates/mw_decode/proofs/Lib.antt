@@ -1,3 +1,7 @@
 mod Leads
 pub mod InsnLemmas
 pub mod Ranges
+mod EncodeParts
+mod EncodeRows
+mod EncodeBack
+pub mod EncodeLemmas

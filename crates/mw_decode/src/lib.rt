@@ -2,6 +2,7 @@
 #![tactic(auto)]
 
 mod decoder;
+mod encoder;
 mod groups;
 mod insn;
 mod rule;
@@ -11,5 +12,6 @@ mod unavailable;
 mod word;
 
 pub use decoder::{decode, is_prefix};
+pub use encoder::encode;
 pub use insn::{Code, Decoded, Facility, Insn};
 pub use rule::{Rule, is_illegal_form};

@@ -1,17 +1,16 @@
 -- What holds of each row of the instruction table.
-use Rattle.std.proofs.Common.{◌≡◌, ℕ, zero, suc, ◌+◌, ◌*◌, ◌^◌, ◌<◌, ◌==◌, Bool, true, false, not, ◌&&◌, ℤ, pos, List, [], ◌∷◌, Option, Some, None, IsSomeAnd, slice_get, length, refl, sym, ap, ◌∙◌, subst, arith}
+use Rattle.std.proofs.Common.{◌≡◌, ℕ, zero, suc, ◌*◌, ◌^◌, ◌<◌, ◌==◌, Bool, true, false, not, ◌&&◌, ℤ, pos, List, [], ◌∷◌, Option, Some, None, IsSomeAnd, slice_get, length, refl, sym, ap, ◌∙◌, subst, arith}
 use Rattle.std.specs.Option.{option_map_or}
 use Rattle.std.specs.Int.{w64, cast_unsigned}
 use Rattle.std.proofs.lemmas.Bool.{and_parts, eqb-true, not-true}
 use Rattle.mw_tables.specs.declared.layout.Field.{Field}
 use Rattle.mw_tables.specs.declared.layout.Layout.{Layout}
 use Rattle.mw_tables.specs.Rows.{lines, layouts}
-use Rattle.mw_tables.specs.Layouts.{fields_of, width_of, operand_at, operand_from, InRange, HasOperands}
+use Rattle.mw_tables.specs.Layouts.{fields_of, width_of, operand_at, InRange, HasOperands}
 use Rattle.mw_decode.specs.declared.insn.Insn.{Insn}
 use Rattle.mw_decode.specs.Decode.{IsInsn}
 use Rattle.mw_isa.specs.declared.operation.Operation.{Operation}
 use Rattle.mw_isa.specs.Operations.{operations, operand_count, register_places}
-use Rattle.mw_isa.specs.Execute.{operand_of}
 use Rattle.mw_isa.specs.Shaped.{AreRegisters, AreCounted, IsReady}
 
 -- a register's field: five bits, unsigned

@@ -47,7 +47,7 @@ mod tests {
             (223, "pnop", Operation::Hint),
         ] {
             assert!(rt; row < 224);
-            assert_eq!(rt; row_at(row).name, name);
+            assert!(rt; row_at(row).name == name, "{name}");
             assert_eq!(rt; operation_at(row), operation, "{name}");
         }
     }

@@ -1,7 +1,7 @@
 use Rattle.std.proofs.Common.{Some, refl, sym, ap, ◌∙◌}
 use Rattle.mw_soc.specs.Devices.{cycle_of}
 use Rattle.mw_isa.specs.State.{State, seen}
-use Rattle.mw_decode.specs.declared.insn.Decoded.TheVariants.{Insn as Is, Unavailable, Alignment, Illegal}
+use Rattle.mw_decode.specs.declared.insn.Decoded.TheVariants.{Insn as Is, Unavailable, Illegal}
 use Rattle.mw_isa.proofs.StepLaws.{after_of-cycle}
 use Rattle.mw_board.proofs.PlainLemmas.{turns-cut, turns-none, turns-stopped, turns-some}
 use Rattle.mw_board.proofs.plain.turn.Goals as goal
