@@ -545,16 +545,23 @@ fn a_source_is_assembled(rt: HostRuntime) -> Result<(), Fail> {
 #[test]
 fn the_longest_source_is_served(rt: HostRuntime) -> Result<(), Fail> {
     let alloc = rt.alloc();
+    let comment = vec![in alloc; b'#'; 4194305]?;
     let lines = vec![in alloc; b'\n'; 4194305]?;
     let mut host = SureHost::new(alloc);
-    host.put("over", lines.as_slice())?;
-    host.put("full", lines.as_slice().split_at(4194304).0)?;
+    host.put("full", comment.as_slice().split_at(4194304).0)?;
+    host.put("long", comment.as_slice())?;
+    host.put("tall", lines.as_slice())?;
     for (line, want, said) in [
         ("asm full", Status::Done, ""),
         (
-            "asm over",
+            "asm long",
             Status::BadInput,
-            "mw: over:4194305:1: bad input\n",
+            "mw: long:1:4194305: bad input\n",
+        ),
+        (
+            "asm tall",
+            Status::BadInput,
+            "mw: tall:4194305:1: bad input\n",
         ),
     ] {
         let mut out = SureSink::new(alloc);
