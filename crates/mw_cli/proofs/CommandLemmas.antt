@@ -59,14 +59,14 @@ number-great most n word r fits p is great = none_written most word (λ m small 
     let same : n ≡ m = cc in
     omega arith)
 
--- words that aren't four or six are no order
-pub no_order : (words : List (List ℕ)) → (length words ≡ 4 → ⊥) → (length words ≡ 6 → ⊥) → order_of words ≡ None
+-- words that aren't two, four or six are no order
+pub no_order : (words : List (List ℕ)) → (length words ≡ 2 → ⊥) → (length words ≡ 4 → ⊥) → (length words ≡ 6 → ⊥) → order_of words ≡ None
 unfolding order_of
-no_order [] four six = refl
-no_order (a ∷ []) four six = refl
-no_order (a ∷ b ∷ []) four six = refl
-no_order (a ∷ b ∷ c ∷ []) four six = refl
-no_order (a ∷ b ∷ c ∷ d ∷ []) four six = absurd (four refl)
-no_order (a ∷ b ∷ c ∷ d ∷ e ∷ []) four six = refl
-no_order (a ∷ b ∷ c ∷ d ∷ e ∷ f ∷ []) four six = absurd (six refl)
-no_order (a ∷ b ∷ c ∷ d ∷ e ∷ f ∷ g ∷ others) four six = refl
+no_order [] two four six = refl
+no_order (a ∷ []) two four six = refl
+no_order (a ∷ b ∷ []) two four six = absurd (two refl)
+no_order (a ∷ b ∷ c ∷ []) two four six = refl
+no_order (a ∷ b ∷ c ∷ d ∷ []) two four six = absurd (four refl)
+no_order (a ∷ b ∷ c ∷ d ∷ e ∷ []) two four six = refl
+no_order (a ∷ b ∷ c ∷ d ∷ e ∷ f ∷ []) two four six = absurd (six refl)
+no_order (a ∷ b ∷ c ∷ d ∷ e ∷ f ∷ g ∷ others) two four six = refl

@@ -1,9 +1,11 @@
 -- No refusal can be answered at every call: the contract itself excludes a program that always gives one of them.
-use Rattle.std.proofs.Common.{◌≡◌, ℕ, ◌<◌, ◌≤◌, List, length, Option, Some, None, IsSomeAnd, IfSome, refl, sym, subst, ◌∙◌, arith}
+use Rattle.std.proofs.Common.{◌≡◌, ℕ, ◌<◌, ◌≤◌, List, length, Option, Some, None, Ok, Err, IsSomeAnd, IfSome, refl, sym, ap, subst, ◌∙◌, arith}
 use Rattle.mw_io.specs.Outside.{Rose, content_of}
-use Rattle.mw_cli.specs.declared.status.Status.TheVariants.{Usage, ReadFault, WriteFault, ImageTooLarge}
-use Rattle.mw_cli.specs.Command.{Order, order_of}
-use Rattle.mw_cli.specs.Answers.{Call, Answers, Asks, IsTooLong}
+use Rattle.mw_asm.specs.declared.fault.Place.{Place}
+use Rattle.mw_asm.specs.Assembled.{assembled}
+use Rattle.mw_cli.specs.declared.status.Status.TheVariants.{Usage, ReadFault, WriteFault, ImageTooLarge, BadInput}
+use Rattle.mw_cli.specs.Command.{RunOrder, Order, Run, Assemble, IsRunAnd, IsAssembleAnd, order_of}
+use Rattle.mw_cli.specs.Answers.{Call, Answers, Asks, IsTooLong, IsRefusedAt}
 use Rattle.mw_cli.proofs.AnswerLemmas.{at_some}
 
 -- nothing is both none and some
@@ -23,13 +25,30 @@ pub never-write-fault : (call : Call) → ¬ (Rose call.out.faults_before call.o
 never-write-fault call calm a = calm (a.write_fault refl)
 
 -- an image of a host that tells its files is the file's content
-too-long-content : (call : Call) (order : Order) (told : List ℕ → Option (List ℕ)) → call.host.files ≡ Some told → IsTooLong call.host order → 16777216 < length (content_of told order.image)
+too-long-content : (call : Call) (order : RunOrder) (told : List ℕ → Option (List ℕ)) → call.host.files ≡ Some told → IsTooLong call.host order → 16777216 < length (content_of told order.image)
 too-long-content call order told files long =
     let is : long.0 ≡ content_of told order.image = subst (λ (o : Option (List ℕ → Option (List ℕ))). IfSome o (λ t. long.0 ≡ content_of t order.image)) files long.1 in
     subst (λ (xs : List ℕ). 16777216 < length xs) is long.2
 
 -- ImageTooLarge isn't answered where the file fits RAM
-pub never-too-large : (call : Call) (order : Order) (told : List ℕ → Option (List ℕ)) → Asks call order told → length (content_of told order.image) ≤ 16777216 → Answers call ImageTooLarge → ⊥
+pub never-too-large : (call : Call) (order : RunOrder) (told : List ℕ → Option (List ℕ)) → Asks call (Run order) told → length (content_of told order.image) ≤ 16777216 → Answers call ImageTooLarge → ⊥
 never-too-large call order told asks fits a =
-    let long = too-long-content call order told asks.1 (at_some (order_of call.words) (λ o. IsTooLong call.host o) order asks.0 (a.too_large refl)) in
+    let long = too-long-content call order told asks.1 (at_some (order_of call.words) (λ o. IsRunAnd o (IsTooLong call.host)) (Run order) asks.0 (a.too_large refl)) in
     omega arith
+
+-- with BadInput the words aren't a run, and a source is refused
+bad-cause : (call : Call) (order : Order) → order_of call.words ≡ Some order → Answers call BadInput → IsAssembleAnd order (λ source. (line : ℕ) × (column : ℕ) × IsRefusedAt call.host source line column)
+bad-cause call order asked a = at_some (order_of call.words) (λ o. IsAssembleAnd o (λ source. (line : ℕ) × (column : ℕ) × IsRefusedAt call.host source line column)) order asked (a.bad_input refl)
+
+-- BadInput isn't answered where the words ask for a run
+pub never-bad-run : (call : Call) (order : RunOrder) → order_of call.words ≡ Some (Run order) → Answers call BadInput → ⊥
+never-bad-run call order asked a = bad-cause call (Run order) asked a
+
+-- nor where the source has bytes
+pub never-bad-input : (call : Call) (name : List ℕ) (told : List ℕ → Option (List ℕ)) (bytes : List ℕ) → Asks call (Assemble name) told → assembled (content_of told name) ≡ Ok bytes → Answers call BadInput → ⊥
+never-bad-input call name told bytes asks ok a =
+    let (line, column, (source, is, (what, e))) = bad-cause call (Assemble name) asks.0 a in
+    let place : Place = record { line = line; column = column; what = what } in
+    let same : source ≡ content_of told name = subst (λ (o : Option (List ℕ → Option (List ℕ))). IfSome o (λ t. source ≡ content_of t name)) asks.1 is in
+    let refused : assembled (content_of told name) ≡ Err place = sym (ap assembled same) ∙ e in
+    cc

@@ -1,6 +1,8 @@
 pub mod CommandLemmas
 pub mod WritingLemmas
+pub mod FileLemmas
 pub mod RunLemmas
+pub mod AssemblyLemmas
 pub mod CauseLemmas
 pub mod AnswerLemmas
 pub mod ConstantStatus

@@ -1,19 +1,56 @@
 -- What the words of the command line say.
-use Rattle.std.specs.Prelude.{ℕ, ◌+◌, ◌==◌, Bool, false, not, ◌&&◌, if◌then◌else◌, nat_le, List, [], ◌∷◌, Option, Some, None, option_map, option_and_then, bytes_eq, codes, decimal}
+use Rattle.std.specs.Prelude.{ℕ, ◌+◌, ◌≤◌, ◌==◌, Bool, false, not, ◌&&◌, if◌then◌else◌, nat_le, List, [], ◌∷◌, Option, Some, None, IfSome, option_map, option_and_then, bytes_eq, codes, decimal}
 use Rattle.std.specs.List.{before_first, after_first}
 use Rattle.std.specs.Str.Parse.{digits_value}
 use Rattle.mw_isa.specs.declared.access.Span.{Span}
+use Rattle.mw_cli.specs.declared.command.RunCommand.{RunCommand}
 use Rattle.mw_cli.specs.declared.command.Command.{Command}
+use Rattle.mw_cli.specs.declared.command.Command.TheVariants.{Run as RunWords, Assemble as AssembleWords}
 
 -- run IMAGE --cycles N, with --dump A:L or without: the image's name, the number of cycles, and the stretch of RAM
-pub record Order : Type 0 where
+pub record RunOrder : Type 0 where
   pub image : List ℕ
   pub cycles : ℕ
   pub dump : Option Span
 
+-- what the words ask for: a run, or with asm SOURCE the image of the source of this name
+pub data Order : Type 0 where
+  Run : RunOrder → Order
+  Assemble : List ℕ → Order
+
+-- the name of the file that an order reads
+abbrev pub name_of : Order → List ℕ
+name_of (Run order) = order.image
+name_of (Assemble source) = source
+
+-- the most bytes that this file may have: as many as RAM, or 4 MiB
+abbrev pub most_of : Order → ℕ
+most_of (Run order) = 16777216
+most_of (Assemble source) = 4194304
+
+-- the order is a run that has this
+abbrev pub IsRunAnd : Order → (RunOrder → Type 0) → Type 0
+IsRunAnd (Run order) P = P order
+IsRunAnd (Assemble source) P = ⊥
+
+-- the order is to assemble a source whose name has this
+abbrev pub IsAssembleAnd : Order → (List ℕ → Type 0) → Type 0
+IsAssembleAnd (Run order) P = ⊥
+IsAssembleAnd (Assemble source) P = P source
+
+-- the run that the code's object stands for
+abbrev pub run_in : RunCommand → RunOrder
+run_in command = record { image = command.image.now; cycles = command.cycles; dump = command.dump }
+
 -- the order that the code's object stands for
 abbrev pub order_in : Command → Order
-order_in command = record { image = command.image.now; cycles = command.cycles; dump = command.dump }
+order_in (RunWords command) = Run (run_in command)
+order_in (AssembleWords source) = Assemble source.now
+
+-- a run of the code is asked for within its limits
+abbrev pub IsBounded : Command → Type 0
+IsBounded (RunWords command) = (command.cycles ≤ 4000000) × IfSome command.dump (λ span. span.at + span.len ≤ 16777216)
+IsBounded (AssembleWords source) = Unit {0}
 
 -- a name: not empty, and not beginning with a minus
 abbrev pub is_name : List ℕ → Bool
@@ -45,12 +82,17 @@ span_of word = span_by (before_first is_colon word) (after_first is_colon word)
 abbrev pub dump_by : List ℕ → List ℕ → Option Span
 dump_by option word = if bytes_eq option (codes "--dump") then span_of word else None
 
--- an order of these words and a dump, if they are in its grammar
+-- a run's order of these words and a dump, if they are in its grammar
 abbrev pub order_by : List ℕ → List ℕ → List ℕ → List ℕ → Option Span → Option Order
-order_by verb image option number dump = if bytes_eq verb (codes "run") && (is_name image && bytes_eq option (codes "--cycles")) then option_map (λ n. record { image = image; cycles = n; dump = dump }) (number_up_to 4000000 number) else None
+order_by verb image option number dump = if bytes_eq verb (codes "run") && (is_name image && bytes_eq option (codes "--cycles")) then option_map (λ n. Run (record { image = image; cycles = n; dump = dump })) (number_up_to 4000000 number) else None
 
--- what the words behind the program's name say, if they are in the grammar
+-- an order of these two words, if they are in its grammar
+abbrev pub source_by : List ℕ → List ℕ → Option Order
+source_by verb source = if bytes_eq verb (codes "asm") && is_name source then Some (Assemble source) else None
+
+-- what the words behind the program's name say, if they are in one of the two grammars
 unfoldable pub order_of : List (List ℕ) → Option Order
+order_of (verb ∷ source ∷ []) = source_by verb source
 order_of (verb ∷ image ∷ option ∷ number ∷ []) = order_by verb image option number None
 order_of (verb ∷ image ∷ option ∷ number ∷ second ∷ word ∷ []) = option_and_then (λ span. order_by verb image option number (Some span)) (dump_by second word)
 order_of words = None

@@ -1,9 +1,9 @@
 -- The numbers of the statuses, and the status of each refusal.
 use Rattle.std.specs.Prelude.{ℕ}
 use Rattle.mw_cli.specs.declared.status.Status.{Status}
-use Rattle.mw_cli.specs.declared.status.Status.TheVariants.{Done, Usage, ReadFault, WriteFault, ImageTooLarge, NoMemory, Unbuilt}
+use Rattle.mw_cli.specs.declared.status.Status.TheVariants.{Done, Usage, ReadFault, WriteFault, ImageTooLarge, BadInput, NoMemory, Unbuilt}
 use Rattle.mw_cli.specs.declared.refusal.Refusal.{Refusal}
-use Rattle.mw_cli.specs.declared.refusal.Refusal.TheVariants.{Unreadable, Unwritable, TooLarge, OutOfMemory, NotBuilt}
+use Rattle.mw_cli.specs.declared.refusal.Refusal.TheVariants.{Unreadable, Unwritable, TooLarge, Bad, OutOfMemory, NotBuilt}
 
 -- the number that the process ends with
 abbrev pub number_of : Status → ℕ
@@ -12,6 +12,7 @@ number_of Usage = 2
 number_of ReadFault = 3
 number_of WriteFault = 4
 number_of ImageTooLarge = 5
+number_of BadInput = 6
 number_of NoMemory = 7
 number_of Unbuilt = 8
 
@@ -20,5 +21,6 @@ abbrev pub status_of : Refusal → Status
 status_of Unreadable = ReadFault
 status_of TooLarge = ImageTooLarge
 status_of (NotBuilt cia) = Unbuilt
+status_of (Bad line column) = BadInput
 status_of Unwritable = WriteFault
 status_of OutOfMemory = NoMemory

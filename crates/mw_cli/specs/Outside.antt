@@ -1,7 +1,7 @@
 -- What a call of the program's main function was given, and what the outside shows before it and after it.
-use Rattle.std.specs.Prelude.{ℕ, ◌≡◌, ◌≤◌, ◌⊎◌, Bool, List, length, take, Option, IfSome, IsTrue}
+use Rattle.std.specs.Prelude.{ℕ, ◌+◌, ◌≡◌, ◌≤◌, ◌⊎◌, Bool, List, length, take, Option, IfSome, IsTrue}
 use Rattle.mw_io.specs.Outside.{Rose, IsReadOn, content_of, with_more}
-use Rattle.mw_cli.specs.Command.{Order}
+use Rattle.mw_cli.specs.Command.{RunOrder}
 
 -- a host: its files where it tells them, whether it is sound, and its count of faults before and after
 pub record Reading : Type 0 where
@@ -20,12 +20,17 @@ pub record Writing : Type 0 where
   pub wants_after : ℕ
 
 -- the image is the file's content, where the files are told
-abbrev pub IsImage : Reading → Order → List ℕ → Type 0
+abbrev pub IsImage : Reading → RunOrder → List ℕ → Type 0
 IsImage host order image = IfSome host.files (λ told. image ≡ content_of told order.image)
 
--- where a file is open, this is what is left of the one of this name: all behind at most its first 16,777,217 bytes
-abbrev pub StopsReading : Option (List ℕ → Option (List ℕ)) → Bool → List ℕ → List ℕ → Type 0
-StopsReading files opened rest name = IsTrue opened → IfSome files (λ told. IsReadOn 16777217 (content_of told name) rest)
+-- the source is the content of the file of this name, where the files are told
+abbrev pub IsSource : Reading → List ℕ → List ℕ → Type 0
+IsSource host name source = IfSome host.files (λ told. source ≡ content_of told name)
+
+-- where a file is open, this is what is left of the one of this name: all behind at most its first bytes up to one past
+-- this limit
+abbrev pub StopsReading : Option (List ℕ → Option (List ℕ)) → Bool → List ℕ → ℕ → List ℕ → Type 0
+StopsReading files opened rest most name = IsTrue opened → IfSome files (λ told. IsReadOn (most + 1) (content_of told name) rest)
 
 -- the sink took nothing
 abbrev pub TookNothing : Writing → Type 0

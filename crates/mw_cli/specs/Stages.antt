@@ -1,17 +1,32 @@
 -- What the parts of a run say, each of its own refusals.
-use Rattle.std.specs.Prelude.{ℕ, List, take}
-use Rattle.mw_io.specs.Outside.{Rose}
+use Rattle.std.specs.Prelude.{ℕ, ◌+◌, ◌≡◌, List, take, Ok, IfSome}
+use Rattle.mw_io.specs.Outside.{Rose, content_of}
+use Rattle.mw_asm.specs.Assembled.{assembled}
 use Rattle.mw_cli.specs.declared.refusal.Refusal.{Refusal}
-use Rattle.mw_cli.specs.declared.refusal.Refusal.TheVariants.{Unreadable, Unwritable, TooLarge, OutOfMemory, NotBuilt}
-use Rattle.mw_cli.specs.Command.{Order}
-use Rattle.mw_cli.specs.Outside.{Reading, Writing, Took}
-use Rattle.mw_cli.specs.Answers.{IsUnread, IsTooLong, ReachesUnbuilt}
+use Rattle.mw_cli.specs.declared.refusal.Refusal.TheVariants.{Unreadable, Unwritable, TooLarge, Bad, OutOfMemory, NotBuilt}
+use Rattle.mw_cli.specs.Command.{RunOrder}
+use Rattle.mw_cli.specs.Outside.{Reading, Writing, IsSource, Took}
+use Rattle.mw_cli.specs.Answers.{IsUnread, IsTooLong, ReachesUnbuilt, IsRefusedAt}
+
+-- these are the first bytes of the file of this name up to one past this limit, where the files are told
+abbrev pub IsFront : Reading → ℕ → List ℕ → List ℕ → Type 0
+IsFront host most name bytes = IfSome host.files (λ told. bytes ≡ take (most + 1) (content_of told name))
+
+-- why a file isn't read
+abbrev pub IsReadRefusal : Reading → List ℕ → Refusal → Type 0
+IsReadRefusal host name Unreadable = IsUnread host name
+IsReadRefusal host name TooLarge = ⊥
+IsReadRefusal host name (NotBuilt cia) = ⊥
+IsReadRefusal host name (Bad line column) = ⊥
+IsReadRefusal host name Unwritable = ⊥
+IsReadRefusal host name OutOfMemory = Unit {0}
 
 -- why an image isn't there
-abbrev pub IsLoadRefusal : Reading → Order → Refusal → Type 0
-IsLoadRefusal host order Unreadable = IsUnread host order
+abbrev pub IsLoadRefusal : Reading → RunOrder → Refusal → Type 0
+IsLoadRefusal host order Unreadable = IsUnread host order.image
 IsLoadRefusal host order TooLarge = IsTooLong host order
 IsLoadRefusal host order (NotBuilt cia) = ⊥
+IsLoadRefusal host order (Bad line column) = ⊥
 IsLoadRefusal host order Unwritable = ⊥
 IsLoadRefusal host order OutOfMemory = Unit {0}
 
@@ -20,8 +35,22 @@ abbrev pub IsRunRefusal : List ℕ → ℕ → Refusal → Type 0
 IsRunRefusal image n Unreadable = ⊥
 IsRunRefusal image n TooLarge = ⊥
 IsRunRefusal image n (NotBuilt cia) = ReachesUnbuilt image n cia
+IsRunRefusal image n (Bad line column) = ⊥
 IsRunRefusal image n Unwritable = ⊥
 IsRunRefusal image n OutOfMemory = Unit {0}
+
+-- these are the bytes that the source of this name gives
+abbrev pub Gives : Reading → List ℕ → List ℕ → Type 0
+Gives host name bytes = (source : List ℕ) × IsSource host name source × (assembled source ≡ Ok bytes)
+
+-- why a source gives no bytes
+abbrev pub IsAssembleRefusal : Reading → List ℕ → Refusal → Type 0
+IsAssembleRefusal host name Unreadable = IsUnread host name
+IsAssembleRefusal host name TooLarge = ⊥
+IsAssembleRefusal host name (NotBuilt cia) = ⊥
+IsAssembleRefusal host name (Bad line column) = IsRefusedAt host name line column
+IsAssembleRefusal host name Unwritable = ⊥
+IsAssembleRefusal host name OutOfMemory = Unit {0}
 
 -- a sink took a front of the bytes
 abbrev pub TookFront : Writing → List ℕ → Type 0
@@ -32,5 +61,6 @@ abbrev pub IsWriteRefusal : Writing → List ℕ → Refusal → Type 0
 IsWriteRefusal sink text Unreadable = ⊥
 IsWriteRefusal sink text TooLarge = ⊥
 IsWriteRefusal sink text (NotBuilt cia) = ⊥
+IsWriteRefusal sink text (Bad line column) = ⊥
 IsWriteRefusal sink text Unwritable = Rose sink.faults_before sink.faults_after × TookFront sink text
 IsWriteRefusal sink text OutOfMemory = TookFront sink text

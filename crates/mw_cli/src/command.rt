@@ -1,5 +1,5 @@
 ghost use Rattle.std.specs.Prelude.{◌≡◌, ◌+◌, ◌≤◌, map, string_bytes, option_map, IfSome, bytes_eq, decimal};
-ghost use Rattle.mw_cli.specs.Command.{order_in, order_of, is_name, number_up_to, span_by, span_of, dump_by, order_by};
+ghost use Rattle.mw_cli.specs.Command.{order_in, order_of, name_of, IsBounded, is_name, number_up_to, span_by, span_of, dump_by, order_by, source_by};
 
 use mw_isa::Span;
 
@@ -12,15 +12,39 @@ const RAM_SIZE: u64 = 16777216;
 /// The greatest number of bytes that a dump may be asked for.
 const MOST_DUMPED: u64 = 65536;
 
-/// What the words ask for: a run of an image for a number of cycles, and a dump.
+/// A run of an image for a number of cycles, and a dump.
 #[derive(Clone, Copy)]
-pub struct Command<'a> {
+pub struct RunCommand<'a> {
     /// The name of the image's file. In an order it is not empty and doesn't begin with a minus.
     pub image: &'a str,
     /// How many cycles the run has. In an order they are at most `MOST_CYCLES`.
     pub cycles: u64,
     /// The stretch of RAM that is dumped, if one is. In an order it has 1 to `MOST_DUMPED` bytes, all of them in RAM.
     pub dump: Option<Span>,
+}
+
+/// What the words ask for.
+#[derive(Clone, Copy)]
+pub enum Command<'a> {
+    /// A run.
+    Run(RunCommand<'a>),
+    /// The image of a source.
+    Assemble {
+        /// The name of the source's file. In an order it is not empty and doesn't begin with a minus.
+        source: &'a str,
+    },
+}
+
+impl<'a> Command<'a> {
+    /// The name of the file that is read.
+    pub fn name(&self) -> &'a str
+        ensures { result.now ≡ name_of (order_in self.now) }
+    {
+        match self {
+            Command::Run(command) => command.image,
+            Command::Assemble { source } => *source,
+        }
+    }
 }
 
 /// Whether a word can be a name: it isn't empty and doesn't begin with a minus.
@@ -97,7 +121,7 @@ fn read_dump(option: &str, word: &str) -> Option<Span>
     }
 }
 
-/// What four words and a dump ask for, if the words are in the grammar.
+/// The run that four words and a dump ask for, if the words are in its grammar.
 fn order<'a>(
     verb: &str,
     image: &'a str,
@@ -107,16 +131,15 @@ fn order<'a>(
 ) -> Option<Command<'a>>
     requires { IfSome dump (λ span. span.at + span.len ≤ 16777216) }
     ensures value { option_map order_in result ≡ order_by verb.now image.now option.now digits.now dump }
-    ensures few { IfSome result (λ command. command.cycles ≤ 4000000) }
-    ensures room { IfSome result (λ command. IfSome command.dump (λ span. span.at + span.len ≤ 16777216)) }
+    ensures bounded { IfSome result IsBounded }
 {
     if verb == "run" && can_name(image) && option == "--cycles" {
         match number(digits, MOST_CYCLES) {
-            Some(cycles) => Some(Command {
+            Some(cycles) => Some(Command::Run(RunCommand {
                 image,
                 cycles,
                 dump,
-            }),
+            })),
             None => None,
         }
     } else {
@@ -124,14 +147,26 @@ fn order<'a>(
     }
 }
 
-/// What the words behind the program's name ask for, if they are in the grammar.
+/// What two words ask for, if they ask for the image of a source.
+fn assembly<'a>(verb: &str, source: &'a str) -> Option<Command<'a>>
+    ensures value { option_map order_in result ≡ source_by verb.now source.now }
+    ensures bounded { IfSome result IsBounded }
+{
+    if verb == "asm" && can_name(source) {
+        Some(Command::Assemble { source })
+    } else {
+        None
+    }
+}
+
+/// What the words behind the program's name ask for, if they are in one of the two grammars.
 #[tactic(auto, unfolding(crate::specs::Command::order_of))]
 pub fn read_words(words: &[String]) -> Option<Command<'_>>
     ensures value { option_map order_in result ≡ order_of (map string_bytes words.now) }
-    ensures few { IfSome result (λ command. command.cycles ≤ 4000000) }
-    ensures room { IfSome result (λ command. IfSome command.dump (λ span. span.at + span.len ≤ 16777216)) }
+    ensures bounded { IfSome result IsBounded }
 {
     match words {
+        [verb, source] => assembly(verb.as_str(), source.as_str()),
         [verb, image, option, digits] => order(
             verb.as_str(),
             image.as_str(),

@@ -1,6 +1,7 @@
-//! The command line: its words, the run that they ask for, and what is written and reported.
+//! The command line: its words, what they ask for, and what is written and reported.
 #![tactic(auto)]
 
+mod assembly;
 mod command;
 mod main_call;
 mod refusal;
@@ -9,6 +10,7 @@ mod run;
 mod status;
 #[cfg(test)]
 mod tests;
+mod transfer;
 
 pub use main_call::mw_main;
 pub use refusal::Refusal;

@@ -1,7 +1,7 @@
-/// Why a run that was asked for isn't printed. Each has a status and a line on err.
+/// Why what the words ask for isn't written. Each has a status and a line on err.
 #[derive(Clone, Copy, Debug, PartialEq, Eq)]
 pub enum Refusal {
-    /// A call of the host failed, so the image isn't read.
+    /// A call of the host failed, so the file isn't read.
     Unreadable,
     /// The image is longer than RAM, 16,777,216 bytes.
     TooLarge,
@@ -10,8 +10,15 @@ pub enum Refusal {
         /// The byte address of that instruction.
         cia: u64,
     },
-    /// A write to out failed, after a front of the text.
+    /// The source is refused.
+    Bad {
+        /// The line of the first refused place, counted from 1.
+        line: u32,
+        /// Its column; the line's first byte is column 1.
+        column: u32,
+    },
+    /// A write to out failed, after a front of the text or of the image.
     Unwritable,
-    /// Memory is wanting, for the image, the run, its text or out.
+    /// Memory is wanting, for the file, the run, its text, the image of a source or out.
     OutOfMemory,
 }

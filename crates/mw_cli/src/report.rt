@@ -1,6 +1,7 @@
-ghost use Rattle.std.specs.Prelude.{◌≡◌, ◌≤◌, ◌++◌, MatchBool, codes};
+ghost use Rattle.std.specs.Prelude.{◌≡◌, ◌≤◌, ◌++◌, MatchBool, codes, decimal};
 ghost use Rattle.mw_cli.specs.Outside.{writing, Took, Stopped, TookUnlessFault};
-ghost use Rattle.mw_cli.specs.Answers.{line_of};
+ghost use Rattle.mw_cli.specs.Answers.{line_of, place_line};
+ghost use Rattle.mw_cli.specs.declared.refusal.Refusal.TheVariants.{Bad};
 
 use crate::refusal::Refusal;
 use mw_io::{Sink, write_all};
@@ -33,14 +34,41 @@ fn write_both<S: Sink>(sink: &mut S, first: &[u8], second: &[u8]) -> bool
     }
 }
 
-/// Writes three pieces, as far as the sink takes them.
-fn write_three<S: Sink>(sink: &mut S, first: &[u8], second: &[u8], third: &[u8])
-    ensures took { TookUnlessFault (writing (S.taken sink.old) (S.taken sink.new) (S.faults sink.old) (S.faults sink.new) (S.wants sink.old) (S.wants sink.new)) (first.now ++ second.now ++ third.now) }
+/// Writes three pieces, and says whether the sink took them whole.
+fn write_three<S: Sink>(sink: &mut S, first: &[u8], second: &[u8], third: &[u8]) -> bool
+    ensures cases { let w = writing (S.taken sink.old) (S.taken sink.new) (S.faults sink.old) (S.faults sink.new) (S.wants sink.old) (S.wants sink.new) in
+        MatchBool result (Took w (first.now ++ second.now ++ third.now)) (Stopped w (first.now ++ second.now ++ third.now)) }
     ensures faults { S.faults sink.old ≤ S.faults sink.new }
     ensures wants { S.wants sink.old ≤ S.wants sink.new }
 {
     if write_both(sink, first, second) {
-        write_piece(sink, third);
+        write_piece(sink, third)
+    } else {
+        false
+    }
+}
+
+/// Writes a number in decimal and a piece, and says whether the sink took them whole.
+fn write_number<S: Sink>(sink: &mut S, number: u32, piece: &[u8]) -> bool
+    ensures cases { let w = writing (S.taken sink.old) (S.taken sink.new) (S.faults sink.old) (S.faults sink.new) (S.wants sink.old) (S.wants sink.new) in
+        MatchBool result (Took w (decimal number ++ piece.now)) (Stopped w (decimal number ++ piece.now)) }
+    ensures faults { S.faults sink.old ≤ S.faults sink.new }
+    ensures wants { S.wants sink.old ≤ S.wants sink.new }
+{
+    write_both(sink, itoa::Buffer::new().format(number).as_bytes(), piece)
+}
+
+/// Writes a line and a column, up to the end of the line on err, and says whether the sink took them whole.
+fn write_place<S: Sink>(sink: &mut S, line: u32, column: u32) -> bool
+    ensures cases { let w = writing (S.taken sink.old) (S.taken sink.new) (S.faults sink.old) (S.faults sink.new) (S.wants sink.old) (S.wants sink.new) in
+        MatchBool result (Took w (place_line line column)) (Stopped w (place_line line column)) }
+    ensures faults { S.faults sink.old ≤ S.faults sink.new }
+    ensures wants { S.wants sink.old ≤ S.wants sink.new }
+{
+    if write_number(sink, line, b":") {
+        write_number(sink, column, b": bad input\n")
+    } else {
+        false
     }
 }
 
@@ -62,17 +90,43 @@ pub fn report_usage<S: Sink>(err: &mut S)
     write_one(err, b"mw: usage\n");
 }
 
-/// Writes to err the line of a refusal: its cause, with the image's name or the instruction's address where it has one.
-/// Where a write fails, err keeps a front of the line.
-pub fn report<S: Sink>(err: &mut S, image: &str, refusal: Refusal)
-    ensures took { TookUnlessFault (writing (S.taken err.old) (S.taken err.new) (S.faults err.old) (S.faults err.new) (S.wants err.old) (S.wants err.new)) (line_of image.now refusal) }
+/// Writes to err the line of a refused source: its name and the refused place, as far as the sink takes it.
+fn report_bad<S: Sink>(err: &mut S, name: &str, line: u32, column: u32)
+    ensures took { TookUnlessFault (writing (S.taken err.old) (S.taken err.new) (S.faults err.old) (S.faults err.new) (S.wants err.old) (S.wants err.new)) (line_of name.now (Bad line column)) }
+    ensures faults { S.faults err.old ≤ S.faults err.new }
+    ensures wants { S.wants err.old ≤ S.wants err.new }
+{
+    if write_three(err, b"mw: ", name.as_bytes(), b":") {
+        write_place(err, line, column);
+    }
+}
+
+/// Writes to err three pieces of a line, as far as the sink takes them.
+fn report_three<S: Sink>(err: &mut S, first: &[u8], second: &[u8], third: &[u8])
+    ensures took { TookUnlessFault (writing (S.taken err.old) (S.taken err.new) (S.faults err.old) (S.faults err.new) (S.wants err.old) (S.wants err.new)) (first.now ++ second.now ++ third.now) }
+    ensures faults { S.faults err.old ≤ S.faults err.new }
+    ensures wants { S.wants err.old ≤ S.wants err.new }
+{
+    write_three(err, first, second, third);
+}
+
+/// Writes to err the line of a refusal: its cause, with the file's name, the refused place or the instruction's address
+/// where it has one. Where a write fails, err keeps a front of the line.
+pub fn report<S: Sink>(err: &mut S, name: &str, refusal: Refusal)
+    ensures took { TookUnlessFault (writing (S.taken err.old) (S.taken err.new) (S.faults err.old) (S.faults err.new) (S.wants err.old) (S.wants err.new)) (line_of name.now refusal) }
     ensures faults { S.faults err.old ≤ S.faults err.new }
     ensures wants { S.wants err.old ≤ S.wants err.new }
 {
     match refusal {
-        Refusal::Unreadable => write_three(err, b"mw: cannot read ", image.as_bytes(), b"\n"),
+        Refusal::Unreadable => report_three(err, b"mw: cannot read ", name.as_bytes(), b"\n"),
         Refusal::TooLarge => write_one(err, b"mw: image exceeds 16777216 bytes\n"),
-        Refusal::NotBuilt { cia } => write_three(err, b"mw: unbuilt at ", &hexadecimal(cia), b"\n"),
+        Refusal::NotBuilt { cia } => report_three(
+            err,
+            b"mw: unbuilt at ",
+            &hexadecimal(cia),
+            b"\n",
+        ),
+        Refusal::Bad { line, column } => report_bad(err, name, line, column),
         Refusal::Unwritable => write_one(err, b"mw: cannot write\n"),
         Refusal::OutOfMemory => write_one(err, b"mw: out of memory\n"),
     }

@@ -1,15 +1,16 @@
-ghost use Rattle.std.specs.Prelude.{◌≡◌, ◌+◌, ◌≤◌, length, vec_len, OnOk, IfOk, IfErr, IfSome, IsTrue};
-ghost use Rattle.mw_cli.specs.Command.{order_in};
+ghost use Rattle.std.specs.Prelude.{◌≡◌, ◌+◌, ◌≤◌, length, OnOk, IfOk, IfErr, IfSome, IsTrue};
+ghost use Rattle.mw_cli.specs.Command.{Run, run_in};
 ghost use Rattle.mw_cli.specs.Headline.{SpellsRun};
-ghost use Rattle.mw_cli.specs.Outside.{reading, writing, IsImage, StopsReading, Took};
+ghost use Rattle.mw_cli.specs.Outside.{reading, writing, IsImage, StopsReading};
 ghost use Rattle.mw_cli.specs.Answers.{Printed, HasCause};
-ghost use Rattle.mw_cli.specs.Stages.{IsLoadRefusal, IsRunRefusal, IsWriteRefusal};
+ghost use Rattle.mw_cli.specs.Stages.{IsLoadRefusal, IsRunRefusal};
 
-use crate::command::Command;
+use crate::command::RunCommand;
 use crate::refusal::Refusal;
+use crate::transfer::{read_file, write_out};
 use mw_bits::Bytes;
 use mw_board::{RunFault, simulate};
-use mw_io::{Host, ReadFault, Sink, SinkFault, read_up_to, write_all};
+use mw_io::{Host, Sink};
 use mw_isa::Span;
 use mw_trace::print;
 use std::alloc::Global;
@@ -18,22 +19,18 @@ use std::alloc::Global;
 const MOST_BYTES: usize = 16777216;
 
 /// Reads the image of a command.
-fn load<H: Host>(alloc: Global, command: &Command<'_>, host: &mut H) -> Result<Vec<u8>, Refusal>
-    ensures image { IfOk result (λ bytes. IsImage (reading (H.files host.old) (H.is_sound host.old) (H.faults host.old) (H.faults host.new)) (order_in command.now) bytes.items) }
+fn load<H: Host>(alloc: Global, command: &RunCommand<'_>, host: &mut H) -> Result<Vec<u8>, Refusal>
+    ensures image { IfOk result (λ bytes. IsImage (reading (H.files host.old) (H.is_sound host.old) (H.faults host.old) (H.faults host.new)) (run_in command.now) bytes.items) }
     ensures fits { IfOk result (λ bytes. length bytes.items ≤ 16777216) }
-    ensures refused { IfErr result (IsLoadRefusal (reading (H.files host.old) (H.is_sound host.old) (H.faults host.old) (H.faults host.new)) (order_in command.now)) }
-    ensures stops { StopsReading (H.files host.old) (H.is_open host.new) (H.rest host.new) command.now.image.now }
+    ensures refused { IfErr result (IsLoadRefusal (reading (H.files host.old) (H.is_sound host.old) (H.faults host.old) (H.faults host.new)) (run_in command.now)) }
+    ensures stops { StopsReading (H.files host.old) (H.is_open host.new) (H.rest host.new) 16777216 command.now.image.now }
     ensures same_files { H.files host.new ≡ H.files host.old }
     ensures later { H.faults host.old ≤ H.faults host.new }
     ensures stays_sound { IsTrue (H.is_sound host.old) → IsTrue (H.is_sound host.new) }
 {
-    let Ok(()) = host.open(command.image) else {
-        return Err(Refusal::Unreadable);
-    };
-    let bytes = match read_up_to(alloc, host, MOST_BYTES) {
+    let bytes = match read_file(alloc, command.image, host, MOST_BYTES) {
         Ok(bytes) => bytes,
-        Err(ReadFault::Failed) => return Err(Refusal::Unreadable),
-        Err(ReadFault::NoMemory) => return Err(Refusal::OutOfMemory),
+        Err(refusal) => return Err(refusal),
     };
     if bytes.len() > MOST_BYTES {
         return Err(Refusal::TooLarge);
@@ -66,34 +63,20 @@ fn text_of_run(
     }
 }
 
-/// Writes a text.
-fn write_text<S: Sink>(out: &mut S, text: &[u8]) -> Result<(), Refusal>
-    ensures took { OnOk result (Took (writing (S.taken out.old) (S.taken out.new) (S.faults out.old) (S.faults out.new) (S.wants out.old) (S.wants out.new)) text.now) }
-    ensures refused { IfErr result (IsWriteRefusal (writing (S.taken out.old) (S.taken out.new) (S.faults out.old) (S.faults out.new) (S.wants out.old) (S.wants out.new)) text.now) }
-    ensures faults { S.faults out.old ≤ S.faults out.new }
-    ensures wants { S.wants out.old ≤ S.wants out.new }
-{
-    match write_all(out, text) {
-        Ok(()) => Ok(()),
-        Err(SinkFault::Failed) => Err(Refusal::Unwritable),
-        Err(SinkFault::NoMemory) => Err(Refusal::OutOfMemory),
-    }
-}
-
 /// Reads the image of a command, runs it, and writes the text of the run to out, all at the end. An `Err` says which of
 /// the three failed. Out took nothing before the text was whole, and after `Unwritable` or `OutOfMemory` it may have
 /// taken a front of it.
 pub fn run<H: Host, S: Sink>(
     alloc: Global,
-    command: &Command<'_>,
+    command: &RunCommand<'_>,
     host: &mut H,
     out: &mut S,
 ) -> Result<(), Refusal>
     requires few { command.now.cycles ≤ 4000000 }
     requires room { IfSome command.now.dump (λ span. span.at + span.len ≤ 16777216) }
-    ensures printed { OnOk result (Printed (reading (H.files host.old) (H.is_sound host.old) (H.faults host.old) (H.faults host.new)) (writing (S.taken out.old) (S.taken out.new) (S.faults out.old) (S.faults out.new) (S.wants out.old) (S.wants out.new)) (order_in command.now)) }
-    ensures refused { IfErr result (HasCause (reading (H.files host.old) (H.is_sound host.old) (H.faults host.old) (H.faults host.new)) (writing (S.taken out.old) (S.taken out.new) (S.faults out.old) (S.faults out.new) (S.wants out.old) (S.wants out.new)) (order_in command.now)) }
-    ensures stops { StopsReading (H.files host.old) (H.is_open host.new) (H.rest host.new) command.now.image.now }
+    ensures printed { OnOk result (Printed (reading (H.files host.old) (H.is_sound host.old) (H.faults host.old) (H.faults host.new)) (writing (S.taken out.old) (S.taken out.new) (S.faults out.old) (S.faults out.new) (S.wants out.old) (S.wants out.new)) (run_in command.now)) }
+    ensures refused { IfErr result (HasCause (reading (H.files host.old) (H.is_sound host.old) (H.faults host.old) (H.faults host.new)) (writing (S.taken out.old) (S.taken out.new) (S.faults out.old) (S.faults out.new) (S.wants out.old) (S.wants out.new)) (Run (run_in command.now))) }
+    ensures stops { StopsReading (H.files host.old) (H.is_open host.new) (H.rest host.new) 16777216 command.now.image.now }
     ensures same_files { H.files host.new ≡ H.files host.old }
     ensures later { H.faults host.old ≤ H.faults host.new }
     ensures stays_sound { IsTrue (H.is_sound host.old) → IsTrue (H.is_sound host.new) }
@@ -108,7 +91,7 @@ pub fn run<H: Host, S: Sink>(
         Ok(text) => text,
         Err(refusal) => return Err(refusal),
     };
-    match write_text(out, text.as_slice()) {
+    match write_out(out, text.as_slice()) {
         Ok(()) => Ok(()),
         Err(refusal) => Err(refusal),
     }

@@ -4,24 +4,26 @@ ghost use Rattle.mw_cli.specs.Numbers.{number_of};
 /// How the program ends. `number` has the numbers.
 #[derive(Clone, Copy, Debug, PartialEq, Eq)]
 pub enum Status {
-    /// The run reached its end, and its text is written. Err took nothing.
+    /// What the words ask for is done: the text of the run, or the image of the source, is written. Err took nothing.
     Done,
-    /// The words aren't `run IMAGE --cycles N` or `run IMAGE --cycles N --dump A:L`.
+    /// The words aren't `run IMAGE --cycles N`, `run IMAGE --cycles N --dump A:L` or `asm SOURCE`.
     Usage,
     /// A call of the host failed, as at a name that isn't among its files.
     ReadFault,
-    /// A write to out failed. Out took a front of the text.
+    /// A write to out failed. Out took a front of the text or of the image.
     WriteFault,
     /// The image is longer than RAM, 16,777,216 bytes.
     ImageTooLarge,
-    /// Memory is wanting. Out took nothing or a front of the text.
+    /// The source is refused at a place, or it goes on past 4,194,304 bytes. Out took nothing.
+    BadInput,
+    /// Memory is wanting. Out took nothing, or a front of the text or of the image.
     NoMemory,
     /// The run reaches an instruction that isn't built. Out took nothing.
     Unbuilt,
 }
 
 impl Status {
-    /// The number that the process ends with: 0 for `Done`, and 2, 3, 4, 5, 7 and 8 for the others in their order.
+    /// The number that the process ends with: 0 for `Done`, and 2 to 8 for the others in their order.
     pub fn number(self) -> u8
         ensures { result ≡ number_of self }
     {
@@ -31,6 +33,7 @@ impl Status {
             Status::ReadFault => 3,
             Status::WriteFault => 4,
             Status::ImageTooLarge => 5,
+            Status::BadInput => 6,
             Status::NoMemory => 7,
             Status::Unbuilt => 8,
         }

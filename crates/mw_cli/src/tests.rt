@@ -367,7 +367,7 @@ fn a_dump_is_in_its_bounds(rt: HostRuntime) -> Result<(), Fail> {
 struct Refused(&'static str, &'static [u8], Status, &'static str);
 
 #[rattlefmt::skip]
-static REFUSED: [Refused; 25] = [
+static REFUSED: [Refused; 30] = [
     Refused("", LOOP, Status::Usage, "mw: usage\n"),
     Refused("run", LOOP, Status::Usage, "mw: usage\n"),
     Refused("run img", LOOP, Status::Usage, "mw: usage\n"),
@@ -389,7 +389,12 @@ static REFUSED: [Refused; 25] = [
     Refused("run img --cycles 0x5", LOOP, Status::Usage, "mw: usage\n"),
     Refused("run img --cycles 4000001", LOOP, Status::Usage, "mw: usage\n"),
     Refused("run img --cycles 18446744073709551617", LOOP, Status::Usage, "mw: usage\n"),
+    Refused("asm", b"", Status::Usage, "mw: usage\n"),
+    Refused("asm img img", b"", Status::Usage, "mw: usage\n"),
+    Refused("asm -img", b"", Status::Usage, "mw: usage\n"),
     Refused("run absent --cycles 3", LOOP, Status::ReadFault, "mw: cannot read absent\n"),
+    Refused("asm absent", b"", Status::ReadFault, "mw: cannot read absent\n"),
+    Refused("asm img", b"frob r3\n", Status::BadInput, "mw: img:1:1: bad input\n"),
     Refused("run img --cycles 5", CUT, Status::Unbuilt, "mw: unbuilt at 0000000000000000\n"),
     Refused("run img --cycles 2", SINGLE, Status::Unbuilt, "mw: unbuilt at 0000000000000004\n"),
     Refused("run img --cycles 1", b"", Status::Unbuilt, "mw: unbuilt at 0000000000000000\n"),
@@ -515,6 +520,123 @@ fn each_call_fails_in_turn(rt: HostRuntime) -> Result<(), Fail> {
 }
 
 #[test]
+fn a_source_is_assembled(rt: HostRuntime) -> Result<(), Fail> {
+    let alloc = rt.alloc();
+    for (source, want) in [
+        ("li r3,5\nb .\n", LOOP),
+        ("li r3,5\nb .", LOOP),
+        ("paddi r3,0,-8589934592,1\nb .\n", PREFIXED),
+        ("# nothing\n", b"".as_slice()),
+        ("", b"".as_slice()),
+    ] {
+        let mut host = SureHost::new(alloc);
+        host.put("s", source.as_bytes())?;
+        let mut out = SureSink::new(alloc);
+        let mut err = SureSink::new(alloc);
+        let words = words_of(alloc, "asm s")?;
+        let status = mw_main(alloc, words.as_slice(), &mut host, &mut out, &mut err);
+        assert_eq!(rt; status, Status::Done, "{source}");
+        assert_eq!(rt; out.as_slice(), want, "{source}");
+        assert_eq!(rt; err.as_slice(), b"".as_slice(), "{source}");
+    }
+    Ok(())
+}
+
+#[test]
+fn the_longest_source_is_served(rt: HostRuntime) -> Result<(), Fail> {
+    let alloc = rt.alloc();
+    let comment = vec![in alloc; b'#'; 4194305]?;
+    let lines = vec![in alloc; b'\n'; 4194305]?;
+    let mut host = SureHost::new(alloc);
+    host.put("full", comment.as_slice().split_at(4194304).0)?;
+    host.put("long", comment.as_slice())?;
+    host.put("tall", lines.as_slice())?;
+    for (line, want, said) in [
+        ("asm full", Status::Done, ""),
+        (
+            "asm long",
+            Status::BadInput,
+            "mw: long:1:4194305: bad input\n",
+        ),
+        (
+            "asm tall",
+            Status::BadInput,
+            "mw: tall:4194305:1: bad input\n",
+        ),
+    ] {
+        let mut out = SureSink::new(alloc);
+        let mut err = SureSink::new(alloc);
+        let words = words_of(alloc, line)?;
+        let status = mw_main(alloc, words.as_slice(), &mut host, &mut out, &mut err);
+        assert_eq!(rt; status, want, "{line}");
+        assert!(rt; out.as_slice().is_empty(), "{line}");
+        assert_eq!(rt; err.as_slice(), said.as_bytes(), "{line}");
+    }
+    Ok(())
+}
+
+/// The same while a source is assembled, or refused.
+#[test]
+fn each_call_for_a_source_fails_in_turn(rt: HostRuntime) -> Result<(), Fail> {
+    let alloc = rt.alloc();
+    let never = 99;
+    let good = "li r3,5\nb .\n";
+    let unread = "mw: cannot read s\n";
+    for (source, of_host, of_out, of_err, want, said) in [
+        (good, 0, never, never, Status::ReadFault, unread),
+        (good, 1, never, never, Status::ReadFault, unread),
+        (good, 2, never, never, Status::ReadFault, unread),
+        (good, 3, 1, never, Status::Done, ""),
+        (
+            good,
+            never,
+            0,
+            never,
+            Status::WriteFault,
+            "mw: cannot write\n",
+        ),
+        ("\nli @", never, never, 0, Status::BadInput, ""),
+        ("\nli @", never, never, 1, Status::BadInput, "mw: "),
+        ("\nli @", never, never, 2, Status::BadInput, "mw: s"),
+        ("\nli @", never, never, 3, Status::BadInput, "mw: s:"),
+        ("\nli @", never, never, 4, Status::BadInput, "mw: s:2"),
+        ("\nli @", never, never, 5, Status::BadInput, "mw: s:2:"),
+        ("\nli @", never, never, 6, Status::BadInput, "mw: s:2:4"),
+        (
+            "\nli @",
+            never,
+            0,
+            7,
+            Status::BadInput,
+            "mw: s:2:4: bad input\n",
+        ),
+    ] {
+        let mut host = MemHost::new(alloc);
+        host.put("s", source.as_bytes())?;
+        host.fail(of_host)?;
+        let mut out = MemSink::new(alloc);
+        out.fail(of_out)?;
+        let mut err = MemSink::new(alloc);
+        err.fail(of_err)?;
+        let words = words_of(alloc, "asm s")?;
+        let status = mw_main(alloc, words.as_slice(), &mut host, &mut out, &mut err);
+        assert_eq!(rt; status, want, "{of_host} {of_out} {of_err}");
+        let taken = if want == Status::Done {
+            LOOP
+        } else {
+            b"".as_slice()
+        };
+        assert_eq!(rt; out.as_slice(), taken, "{of_host} {of_out} {of_err}");
+        assert_eq!(rt;
+            err.as_slice(),
+            said.as_bytes(),
+            "{of_host} {of_out} {of_err}"
+        );
+    }
+    Ok(())
+}
+
+#[test]
 fn a_status_has_its_number(rt: HostRuntime) {
     for (status, number) in [
         (Status::Done, 0),
@@ -522,6 +644,7 @@ fn a_status_has_its_number(rt: HostRuntime) {
         (Status::ReadFault, 3),
         (Status::WriteFault, 4),
         (Status::ImageTooLarge, 5),
+        (Status::BadInput, 6),
         (Status::NoMemory, 7),
         (Status::Unbuilt, 8),
     ] {
