@@ -15,3 +15,5 @@ pub mod PassLemmas
 pub mod SecondLemmas
 pub mod AssembledLemmas
 pub mod SourceLemmas
+mod DisassemblyDigitLemmas
+mod DisassemblyLemmas

@@ -12,3 +12,4 @@ pub mod Labels
 pub mod Assembled
 pub mod Passes
 pub mod Source
+pub mod Disassembly

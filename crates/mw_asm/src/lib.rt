@@ -1,8 +1,10 @@
-//! The assembler: from a source to the bytes of an image.
+//! The assembler, from a source to the bytes of an image, and the disassembler.
 #![tactic(auto)]
 
 mod assembler;
 mod data;
+mod digits;
+mod disassembly;
 mod expression;
 mod fault;
 mod image;
@@ -24,4 +26,5 @@ mod values;
 mod vectors;
 
 pub use assembler::assemble;
+pub use disassembly::disassemble;
 pub use fault::{AsmFault, What};

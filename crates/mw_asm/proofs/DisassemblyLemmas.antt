@@ -1,0 +1,156 @@
+-- The operands of an instruction as they are printed, and the lines of an image.
+use Rattle.std.proofs.Common.{◌≡◌, ℕ, zero, suc, ◌+◌, ◌-◌, ◌*◌, ◌/◌, ◌%◌, ◌<◌, ◌≤◌, ◌==◌, Bool, true, false, not, cond, if◌then◌else◌, List, [], ◌∷◌, ◌++◌, Some, None, length, drop, get_or, slice_get, codes, decimal, refl, sym, ap, ◌∙◌, append_assoc, arith}
+use Rattle.std.proofs.lemmas.List.{append-nil, drop_more, drop_all}
+use Rattle.std.specs.Prelude.{ℤ, pos, unsigned_abs, int_lt}
+use Rattle.std.specs.Fmt.{digits, digits_onto, digit_glyph}
+use Rattle.std.proofs.Math.ListN.{length-append}
+use Rattle.mw_asm.specs.declared.item.Kind.{Kind}
+use Rattle.mw_asm.specs.declared.item.Kind.TheVariants.{Register, Value, Target, Upper}
+use Rattle.mw_asm.specs.declared.item.Item.{Item}
+use Rattle.mw_asm.specs.declared.item.Item.TheVariants.{Operand, Comma, Open, Close}
+use Rattle.mw_asm.proofs.ReadingLemmas.{eqb-other}
+use Rattle.mw_asm.specs.Disassembly.{signed_decimal, operand_text, operands_text, behind_name, printed_at, lines_from, word_count, disassembly}
+
+-- both branches have a byte
+cond-some : (b : Bool) (xs ys : List ℕ) → 0 < length xs → 0 < length ys → 0 < length (cond b xs ys)
+cond-some true xs ys first second = first
+cond-some false xs ys first second = second
+
+-- digits in front of others
+onto-some : (k n : ℕ) (x : ℕ) (acc : List ℕ) → 0 < length (digits_onto k 10 false n (x ∷ acc))
+onto-some zero n x acc = omega arith
+onto-some (suc k) n x acc =
+    cond-some (n / 10 == 0) (digit_glyph false (n % 10) ∷ x ∷ acc) (digits_onto k 10 false (n / 10) (digit_glyph false (n % 10) ∷ x ∷ acc)) (omega arith) (onto-some k (n / 10) (digit_glyph false (n % 10)) (x ∷ acc))
+
+onto-first : (k n : ℕ) → 0 < length (digits_onto (suc k) 10 false n [])
+onto-first k n =
+    cond-some (n / 10 == 0) (digit_glyph false (n % 10) ∷ []) (digits_onto k 10 false (n / 10) (digit_glyph false (n % 10) ∷ [])) (omega arith) (onto-some k (n / 10) (digit_glyph false (n % 10)) [])
+
+-- a decimal number has a digit
+decimal-some : (n : ℕ) → 0 < length (decimal n)
+unfolding digits
+decimal-some n = onto-first 63 n
+
+signed-some : (z : ℤ) → 0 < length (signed_decimal z)
+signed-some z = cond-some (int_lt z (pos 0)) (45 ∷ decimal (unsigned_abs z)) (decimal (unsigned_abs z)) (omega arith) (decimal-some (unsigned_abs z))
+
+-- an operand has a byte
+operand-some : (kind : Kind) (aa : Bool) (at : ℕ) (z : ℤ) → 0 < length (operand_text kind aa at z)
+operand-some Register aa at z = omega arith
+operand-some Target aa at z = omega arith
+operand-some Value aa at z = signed-some z
+operand-some Upper aa at z = signed-some z
+
+-- what has a byte stands behind a blank
+behind-some : (bytes : List ℕ) → 0 < length bytes → behind_name bytes ≡ 32 ∷ bytes
+behind-some [] some = absurd (omega arith)
+behind-some (byte ∷ bytes) some = refl
+
+-- behind the name, by what an operand list begins with
+pub behind-none : (items : List Item) (zs : List ℤ) → slice_get items 0 ≡ None → (aa : Bool) (at : ℕ) → behind_name (operands_text items aa at zs) ≡ []
+unfolding operands_text
+behind-none [] zs given aa at = refl
+behind-none (item ∷ items) zs given aa at = absurd (cc)
+
+pub behind-operand : (items : List Item) (kind : Kind) (zs : List ℤ) → slice_get items 0 ≡ Some (Operand kind) → (aa : Bool) (at : ℕ) → behind_name (operands_text items aa at zs) ≡ (if not (length zs == 0) then 32 ∷ operands_text items aa at zs else [])
+unfolding operands_text
+behind-operand [] kind zs given aa at = absurd (cc)
+behind-operand (Operand other ∷ items) kind [] given aa at = refl
+behind-operand (Operand other ∷ items) kind (z ∷ zs) given aa at =
+    let some = operand-some other aa at z in
+    let there : (length (z ∷ zs) == 0) ≡ false = eqb-other (length (z ∷ zs)) 0 (λ e. omega (arith, e)) in
+    rw there (behind-some (operand_text other aa at z ++ operands_text items aa at zs) (omega (arith, length-append (operand_text other aa at z) (operands_text items aa at zs))))
+behind-operand (Comma ∷ items) kind zs given aa at = absurd (cc)
+behind-operand (Open ∷ items) kind zs given aa at = absurd (cc)
+behind-operand (Close ∷ items) kind zs given aa at = absurd (cc)
+
+pub behind-comma : (items : List Item) (zs : List ℤ) → slice_get items 0 ≡ Some Comma → (aa : Bool) (at : ℕ) → behind_name (operands_text items aa at zs) ≡ 32 ∷ operands_text items aa at zs
+unfolding operands_text
+behind-comma [] zs given aa at = absurd (cc)
+behind-comma (Operand kind ∷ items) zs given aa at = absurd (cc)
+behind-comma (Comma ∷ items) zs given aa at = refl
+behind-comma (Open ∷ items) zs given aa at = absurd (cc)
+behind-comma (Close ∷ items) zs given aa at = absurd (cc)
+
+pub behind-open : (items : List Item) (zs : List ℤ) → slice_get items 0 ≡ Some Open → (aa : Bool) (at : ℕ) → behind_name (operands_text items aa at zs) ≡ 32 ∷ operands_text items aa at zs
+unfolding operands_text
+behind-open [] zs given aa at = absurd (cc)
+behind-open (Operand kind ∷ items) zs given aa at = absurd (cc)
+behind-open (Comma ∷ items) zs given aa at = absurd (cc)
+behind-open (Open ∷ items) zs given aa at = refl
+behind-open (Close ∷ items) zs given aa at = absurd (cc)
+
+pub behind-close : (items : List Item) (zs : List ℤ) → slice_get items 0 ≡ Some Close → (aa : Bool) (at : ℕ) → behind_name (operands_text items aa at zs) ≡ 32 ∷ operands_text items aa at zs
+unfolding operands_text
+behind-close [] zs given aa at = absurd (cc)
+behind-close (Operand kind ∷ items) zs given aa at = absurd (cc)
+behind-close (Comma ∷ items) zs given aa at = absurd (cc)
+behind-close (Open ∷ items) zs given aa at = absurd (cc)
+behind-close (Close ∷ items) zs given aa at = refl
+
+-- at an operand that isn't there
+pub text-without : (items : List Item) (i : ℕ) (d : Item) (kind : Kind) (zs : List ℤ) (place : ℕ) (aa : Bool) (at : ℕ) → i < length items → get_or items i d ≡ Operand kind → length zs ≤ place → operands_text (drop i items) aa at (drop place zs) ≡ []
+unfolding operands_text
+text-without items i d kind zs place aa at lt is none = rw (drop_more items i d lt, is, drop_all place zs none) refl
+
+-- at an operand
+pub text-operand : (items : List Item) (i : ℕ) (d : Item) (kind : Kind) (zs : List ℤ) (place : ℕ) (z : ℤ) (aa : Bool) (at : ℕ) → i < length items → get_or items i d ≡ Operand kind → place < length zs → z ≡ get_or zs place z → operands_text (drop i items) aa at (drop place zs) ≡ operand_text kind aa at z ++ operands_text (drop (i + 1) items) aa at (drop (place + 1) zs)
+unfolding operands_text
+text-operand items i d kind zs place z aa at lt is there e = rw (drop_more items i d lt, is, drop_more zs place z there, ← e) refl
+
+-- at a mark
+pub text-comma : (items : List Item) (i : ℕ) (d : Item) (zs : List ℤ) (aa : Bool) (at : ℕ) → i < length items → get_or items i d ≡ Comma → operands_text (drop i items) aa at zs ≡ codes "," ++ operands_text (drop (i + 1) items) aa at zs
+unfolding operands_text
+text-comma items i d zs aa at lt is = rw (drop_more items i d lt, is) refl
+
+pub text-open : (items : List Item) (i : ℕ) (d : Item) (zs : List ℤ) (aa : Bool) (at : ℕ) → i < length items → get_or items i d ≡ Open → operands_text (drop i items) aa at zs ≡ codes "(" ++ operands_text (drop (i + 1) items) aa at zs
+unfolding operands_text
+text-open items i d zs aa at lt is = rw (drop_more items i d lt, is) refl
+
+pub text-close : (items : List Item) (i : ℕ) (d : Item) (zs : List ℤ) (aa : Bool) (at : ℕ) → i < length items → get_or items i d ≡ Close → operands_text (drop i items) aa at zs ≡ codes ")" ++ operands_text (drop (i + 1) items) aa at zs
+unfolding operands_text
+text-close items i d zs aa at lt is = rw (drop_more items i d lt, is) refl
+
+-- behind the last item
+pub text-end : (items : List Item) (i : ℕ) (zs : List ℤ) (aa : Bool) (at : ℕ) → length items ≤ i → operands_text (drop i items) aa at zs ≡ []
+unfolding operands_text
+text-end items i zs aa at end = rw (drop_all i items end) refl
+
+-- a piece more is written
+pub piece-more : (text next piece left rest whole : List ℕ) → next ≡ text ++ piece → left ≡ piece ++ rest → text ++ left ≡ whole → next ++ rest ≡ whole
+piece-more text next piece left rest whole added is same =
+    ap (λ t. t ++ rest) added ∙ append_assoc text piece rest ∙ ap (λ l. text ++ l) (sym is) ∙ same
+
+-- nothing is left to be written
+pub piece-none : (text left whole : List ℕ) → left ≡ [] → text ++ left ≡ whole → text ≡ whole
+piece-none text left whole none same = sym (append-nil text) ∙ ap (λ l. text ++ l) (sym none) ∙ same
+
+-- the lines of all words
+pub lines-all : (image : List ℕ) → lines_from (word_count image - 0) false image (4 * 0) ≡ disassembly image
+unfolding disassembly
+lines-all image =
+    let e : word_count image - 0 ≡ word_count image = omega arith in
+    ap (λ n. lines_from n false image 0) e
+
+-- a suffix has no line of its own
+pub lines-suffix : (count place : ℕ) (image : List ℕ) → place < count → lines_from (count - place) true image (4 * place) ≡ lines_from (count - (place + 1)) false image (4 * (place + 1))
+unfolding lines_from
+lines-suffix count place image lt =
+    let left : count - place ≡ suc (count - (place + 1)) = omega arith in
+    let at : 4 * place + 4 ≡ 4 * (place + 1) = omega arith in
+    rw left (ap (lines_from (count - (place + 1)) false image) at)
+
+-- the line of a word, in front of the others
+pub lines-word : (count place : ℕ) (image : List ℕ) → place < count → lines_from (count - place) false image (4 * place) ≡ (printed_at image (4 * place)).text ++ lines_from (count - (place + 1)) (printed_at image (4 * place)).pair image (4 * (place + 1))
+unfolding lines_from
+lines-word count place image lt =
+    let left : count - place ≡ suc (count - (place + 1)) = omega arith in
+    let at : 4 * place + 4 ≡ 4 * (place + 1) = omega arith in
+    rw left (ap (λ a. (printed_at image (4 * place)).text ++ lines_from (count - (place + 1)) (printed_at image (4 * place)).pair image a) at)
+
+-- no line is left
+pub lines-none : (count place : ℕ) (suffix : Bool) (image : List ℕ) (at : ℕ) → count ≤ place → lines_from (count - place) suffix image at ≡ []
+unfolding lines_from
+lines-none count place suffix image at end =
+    let left : count - place ≡ 0 = omega arith in
+    rw left refl

@@ -1,0 +1,7 @@
+use Rattle.std.proofs.Common.{◌≡◌, ◌-◌, ◌*◌, ◌++◌}
+use Rattle.mw_asm.specs.Disassembly.{lines_from, word_count, disassembly}
+use Rattle.mw_asm.proofs.disassembly.disassemble.Given as goal
+
+-- what is written, with the lines of the words that are left, is the whole
+abbrev pub invariant-loop-place : goal.invariant-loop-place
+invariant-loop-place l = l.text ++ lines_from (word_count l.image - l.place) l.is_suffix l.image (4 * l.place) ≡ disassembly l.image

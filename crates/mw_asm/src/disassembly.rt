@@ -1,0 +1,373 @@
+ghost use Rattle.std.specs.Prelude.{◌≡◌, ℕ, ◌<◌, ◌^◌, Bool, false, if◌then◌else◌, pos, ◌+ℤ◌, [], ◌∷◌, ◌++◌, length, is_some, IfOk, IfSome, IsTrue, OnOk};
+ghost use Rattle.std.specs.Int.{w64, cast_unsigned};
+ghost use Rattle.mw_decode.specs.Decode.{decode_of, is_prefix};
+ghost use Rattle.mw_asm.specs.Items.{items_of};
+ghost use Rattle.mw_asm.specs.Lines.{shape_at};
+ghost use Rattle.mw_asm.specs.Mnemonics.{ending, spelled};
+ghost use Rattle.mw_asm.specs.Disassembly.{operand_text, operands_text, behind_name, name_at, statement_text, image_byte, image_word, suffix_in, words_text, line_text, long_text, printed_by, printed_with, printed_at, disassembly};
+
+use crate::digits::{add_decimal, add_hex, add_short_hex};
+use crate::item::{Item, Kind, items_of_shape};
+use mw_bits::Bytes;
+use mw_decode::{Decoded, Insn, decode, is_prefix};
+use mw_tables::rows;
+use std::alloc::{AllocError as NoMemory, Global};
+
+/// A block, in bytes: a prefix and its suffix stand in one.
+const BLOCK: usize = 64;
+
+/// The name of the row at a place of the table, without endings.
+fn name_of_row(place: u16) -> &'static str
+    ensures { result.now ≡ name_at place }
+{
+    match rows().get(usize::from(place)) {
+        Some(row) => row.name,
+        None => "",
+    }
+}
+
+/// What is written for the operands of the row at a place of the table.
+fn items_of_row(place: u16) -> &'static [Item]
+    ensures { result.now ≡ items_of (shape_at place) }
+{
+    match rows().get(usize::from(place)) {
+        Some(row) => items_of_shape(row.shape),
+        None => &[],
+    }
+}
+
+/// Appends the ending of a form, where it is chosen.
+fn add_ending(text: &mut Bytes, chosen: bool, piece: &[u8]) -> Result<(), NoMemory>
+    ensures { OnOk result (text.new ≡ text.old ++ ending chosen piece.now) }
+{
+    if chosen { text.add(piece) } else { Ok(()) }
+}
+
+/// Appends the name of an instruction with the endings of its forms.
+fn add_name(text: &mut Bytes, insn: &Insn) -> Result<(), NoMemory>
+    ensures { OnOk result (text.new ≡ text.old
+        ++ (spelled (name_at insn.now.row) insn.now.row insn.now.oe insn.now.lk insn.now.aa insn.now.rc).name) }
+{
+    text.add(name_of_row(insn.row).as_bytes())?;
+    add_ending(text, insn.oe, b"o")?;
+    add_ending(text, insn.lk, b"l")?;
+    add_ending(text, insn.aa, b"a")?;
+    add_ending(text, insn.rc, b".")
+}
+
+/// The address that a branch at an address goes to: its displacement in bytes, from 0 where it is absolute,
+/// and from the branch where it isn't. Sums wrap at 2^64.
+fn target(displacement: i64, absolute: bool, at: u64) -> u64
+    requires { at < 2 ^ 63 }
+    ensures { result ≡ cast_unsigned w64 (displacement +ℤ pos (if absolute then 0 else at)) }
+{
+    if absolute {
+        displacement.cast_unsigned()
+    } else {
+        at.wrapping_add(displacement.cast_unsigned())
+    }
+}
+
+/// Appends an operand.
+fn add_operand(
+    text: &mut Bytes,
+    kind: Kind,
+    absolute: bool,
+    at: u64,
+    operand: i64,
+) -> Result<(), NoMemory>
+    requires { at < 2 ^ 63 }
+    ensures { OnOk result (text.new ≡ text.old ++ operand_text kind absolute at operand) }
+{
+    match kind {
+        Kind::Register => {
+            text.add(b"r")?;
+            add_decimal(text, operand)
+        }
+        Kind::Target => add_short_hex(text, target(operand, absolute, at)),
+        Kind::Value => add_decimal(text, operand),
+        Kind::Upper => add_decimal(text, operand),
+    }
+}
+
+/// Appends operands as an operand list writes them, up to the first that isn't there.
+fn add_operands(
+    text: &mut Bytes,
+    items: &[Item],
+    absolute: bool,
+    at: u64,
+    operands: &[i64],
+) -> Result<(), NoMemory>
+    requires { at < 2 ^ 63 }
+    ensures { OnOk result
+        (text.new ≡ text.old ++ operands_text items.now absolute at operands.now) }
+{
+    let mut place = 0;
+    for item in items {
+        match item {
+            Item::Operand(kind) => {
+                let Some(operand) = operands.get(place) else {
+                    return Ok(());
+                };
+                add_operand(text, *kind, absolute, at, *operand)?;
+                place += 1;
+            }
+            Item::Comma => text.add(b",")?,
+            Item::Open => text.add(b"(")?,
+            Item::Close => text.add(b")")?,
+        }
+    }
+    Ok(())
+}
+
+/// Whether an operand list writes anything for these operands.
+fn has_text(items: &[Item], operands: &[i64]) -> bool
+    ensures { (absolute : Bool) (at : ℕ) →
+        behind_name (operands_text items.now absolute at operands.now)
+        ≡ (if result then 32 ∷ operands_text items.now absolute at operands.now else []) }
+{
+    match items.first() {
+        Some(Item::Operand(_)) => !operands.is_empty(),
+        Some(Item::Comma) => true,
+        Some(Item::Open) => true,
+        Some(Item::Close) => true,
+        None => false,
+    }
+}
+
+/// Appends a blank and the operands of an instruction at an address, where there are any.
+fn add_behind_name(text: &mut Bytes, insn: &Insn, at: u64) -> Result<(), NoMemory>
+    requires { at < 2 ^ 63 }
+    ensures { OnOk result (text.new ≡ text.old
+        ++ behind_name (operands_text (items_of (shape_at insn.now.row)) insn.now.aa at insn.now.ops.items)) }
+{
+    let items = items_of_row(insn.row);
+    let operands = insn.ops.as_slice();
+    if !has_text(items, operands) {
+        return Ok(());
+    }
+    text.add(b" ")?;
+    add_operands(text, items, insn.aa, at, operands)
+}
+
+/// Appends the statement of an instruction at an address: its name with the endings of its forms, and its
+/// operands.
+fn add_statement(text: &mut Bytes, insn: &Insn, at: u64) -> Result<(), NoMemory>
+    requires { at < 2 ^ 63 }
+    ensures { OnOk result (text.new ≡ text.old ++ statement_text insn.now at) }
+{
+    add_name(text, insn)?;
+    add_behind_name(text, insn, at)
+}
+
+/// Appends a word or two, as they are printed.
+fn add_words(text: &mut Bytes, word: u32, suffix: Option<u32>) -> Result<(), NoMemory>
+    ensures { OnOk result (text.new ≡ text.old ++ words_text word suffix) }
+{
+    add_hex(text, 8, u64::from(word))?;
+    match suffix {
+        Some(suffix) => {
+            text.add(b" ")?;
+            add_hex(text, 8, u64::from(suffix))
+        }
+        None => Ok(()),
+    }
+}
+
+/// Appends the line of an instruction at an address, and says whether it has two words.
+fn add_insn(
+    text: &mut Bytes,
+    at: u64,
+    word: u32,
+    suffix: Option<u32>,
+    insn: &Insn,
+) -> Result<bool, NoMemory>
+    requires { at < 2 ^ 63 }
+    ensures line { OnOk result
+        (text.new ≡ text.old ++ line_text at word suffix (statement_text insn.now at)) }
+    ensures pair { IfOk result (λ pair. pair ≡ is_some suffix) }
+{
+    add_hex(text, 16, at)?;
+    text.add(b" ")?;
+    add_words(text, word, suffix)?;
+    text.add(b" ")?;
+    add_statement(text, insn, at)?;
+    text.add(b"\n")?;
+    Ok(suffix.is_some())
+}
+
+/// Appends the line of a word at an address that is no instruction; it has one word.
+fn add_long(text: &mut Bytes, at: u64, word: u32) -> Result<bool, NoMemory>
+    ensures line { OnOk result (text.new ≡ text.old ++ long_text at word) }
+    ensures pair { IfOk result (λ pair. pair ≡ false) }
+{
+    add_hex(text, 16, at)?;
+    text.add(b" ")?;
+    add_hex(text, 8, u64::from(word))?;
+    text.add(b" .long 0x")?;
+    add_hex(text, 8, u64::from(word))?;
+    text.add(b"\n")?;
+    Ok(false)
+}
+
+/// Appends the line of a word at an address, with its suffix, and says whether it has two words.
+fn add_decoded(text: &mut Bytes, at: u64, word: u32, suffix: Option<u32>) -> Result<bool, NoMemory>
+    requires low { at < 2 ^ 63 }
+    requires whole { is_some suffix ≡ is_prefix word }
+    ensures line { OnOk result
+        (text.new ≡ text.old ++ (printed_by at word suffix (decode_of word suffix)).text) }
+    ensures pair { IfOk result
+        (λ pair. pair ≡ (printed_by at word suffix (decode_of word suffix)).pair) }
+{
+    match decode(word, suffix) {
+        Decoded::Insn(insn) => add_insn(text, at, word, suffix, &insn),
+        Decoded::Unavailable(_) => add_long(text, at, word),
+        Decoded::Alignment { .. } => add_long(text, at, word),
+        Decoded::Illegal => add_long(text, at, word),
+    }
+}
+
+/// Appends the line of a word at an address, with the suffix that a prefix has there, and says whether it
+/// has two words.
+fn add_word(text: &mut Bytes, at: u64, word: u32, suffix: Option<u32>) -> Result<bool, NoMemory>
+    requires low { at < 2 ^ 63 }
+    requires prefix { IfSome suffix (λ _. IsTrue (is_prefix word)) }
+    ensures line { OnOk result (text.new ≡ text.old ++ (printed_with at word suffix).text) }
+    ensures pair { IfOk result (λ pair. pair ≡ (printed_with at word suffix).pair) }
+{
+    match suffix {
+        Some(suffix) => add_decoded(text, at, word, Some(suffix)),
+        None => {
+            if is_prefix(word) {
+                add_long(text, at, word)
+            } else {
+                add_decoded(text, at, word, None)
+            }
+        }
+    }
+}
+
+/// The byte of an image at an address, or 0 behind its end.
+fn byte_at(image: &[u8], at: usize) -> u8
+    ensures { result ≡ image_byte image.now at }
+{
+    match image.get(at) {
+        Some(byte) => *byte,
+        None => 0,
+    }
+}
+
+/// The word of an image at an address, filled with zeros where the image ends.
+fn word_at(image: &[u8], at: usize) -> u32
+    requires { at < length image.now }
+    ensures { result ≡ image_word image.now at }
+{
+    u32::from(byte_at(image, at))
+        + 256
+            * (u32::from(byte_at(image, at + 1))
+                + 256
+                    * (u32::from(byte_at(image, at + 2)) + 256 * u32::from(byte_at(image, at + 3))))
+}
+
+/// The suffix of the word of an image at an address, if it is a prefix that has one: in the image, and in its
+/// block.
+fn suffix_at(image: &[u8], at: usize) -> Option<u32>
+    requires { at < length image.now }
+    ensures value { result ≡ suffix_in image.now at }
+    ensures prefix { IfSome result (λ _. IsTrue (is_prefix (image_word image.now at))) }
+{
+    if is_prefix(word_at(image, at)) && at % BLOCK != BLOCK - 4 && at + 4 < image.len() {
+        Some(word_at(image, at + 4))
+    } else {
+        None
+    }
+}
+
+/// Appends the line at an address of an image, and says whether it has two words.
+#[tactic(auto, unfolding(crate::specs::Disassembly::printed_at))]
+fn add_line(text: &mut Bytes, image: &[u8], at: usize) -> Result<bool, NoMemory>
+    requires { at < length image.now }
+    ensures line { OnOk result (text.new ≡ text.old ++ (printed_at image.now at).text) }
+    ensures pair { IfOk result (λ pair. pair ≡ (printed_at image.now at).pair) }
+{
+    add_word(text, at as u64, word_at(image, at), suffix_at(image, at))
+}
+
+/// The disassembly of an image from address 0 on, in bytes: a line for each word or pair, with its address,
+/// its words and its statement as the assembler reads it. A word that is no instruction, and a prefix
+/// whose pair is none or that has no suffix in the image and in its block of 64 bytes, has a `.long` line
+/// with that one word. The last word is filled with zeros. The only error is want of memory.
+pub fn disassemble(alloc: Global, image: &[u8]) -> Result<Bytes, NoMemory>
+    ensures { IfOk result (λ text. text ≡ disassembly image.now) }
+{
+    let mut text = Bytes::new(alloc);
+    let mut is_suffix = false;
+    for place in 0..image.len().div_ceil(4) {
+        if is_suffix {
+            is_suffix = false;
+        } else {
+            is_suffix = add_line(&mut text, image, 4 * place)?;
+        }
+    }
+    Ok(text)
+}
+
+#[cfg(test)]
+mod tests {
+    use super::*;
+    use std::test::Fail;
+
+    /// An image and its disassembly.
+    struct Case(&'static [u8], &'static str);
+
+    #[rattlefmt::skip]
+    static CASES: [Case; 22] = [
+        Case(b"", ""),
+        Case(b"\x05\0\x60", "0000000000000000 00600005 .long 0x00600005\n"),
+        Case(b"\x05\0\x60\x38\0\0\0\x48", "0000000000000000 38600005 addi r3,r0,5\n0000000000000004 48000000 b 0x4\n"),
+        Case(b"\0\0\x12\x06\0\0\x60\x38\0\0\0\x04\x10\0\x80\xe4", "0000000000000000 06120000 38600000 paddi r3,r0,-8589934592,1\n0000000000000008 04000000 e4800010 pld r4,16(r0),0\n"),
+        Case(b"\0\0\x12\x06\0\0\0\x48", "0000000000000000 06120000 .long 0x06120000\n0000000000000004 48000000 b 0x4\n"),
+        Case(b"\0\0\0\x07", "0000000000000000 07000000 .long 0x07000000\n"),
+        Case(b"\0\0\0\x07\0\0\0\x07\0\0\0\x07", "0000000000000000 07000000 07000000 pnop\n0000000000000008 07000000 .long 0x07000000\n"),
+        Case(b"\0\0\0\x07\x05", "0000000000000000 07000000 00000005 pnop\n"),
+        Case(b"\0\0\0\x07\x05\0\x60", "0000000000000000 07000000 00600005 pnop\n"),
+        Case(b"\x15\x2a\x64\x7c\x14\x2e\x64\x7c", "0000000000000000 7c642a15 add. r3,r4,r5\n0000000000000004 7c642e14 addo r3,r4,r5\n"),
+        Case(b"\x15\x2e\x64\x7c\x2d\x29\x64\x7c", "0000000000000000 7c642e15 addo. r3,r4,r5\n0000000000000004 7c64292d stwcx. r3,r4,r5\n"),
+        Case(b"\x03\x01\0\x48\xf8\xff\xff\x4b", "0000000000000000 48000103 bla 0x100\n0000000000000004 4bfffff8 b 0xfffffffffffffffc\n"),
+        Case(b"\xfc\xff\xff\x4b\xfd\xff\xff\x4b", "0000000000000000 4bfffffc b 0xfffffffffffffffc\n0000000000000004 4bfffffd bl 0x0\n"),
+        Case(b"\x05\0\x9f\x42\xfa\xff\x82\x41", "0000000000000000 429f0005 bcl 20,31,0x4\n0000000000000004 4182fffa bca 12,2,0xfffffffffffffff8\n"),
+        Case(b"\xf8\xff\x64\x80\x02\0\0\x44", "0000000000000000 8064fff8 lwz r3,-8(r4)\n0000000000000004 44000002 sc\n"),
+        Case(b"\x64\x22\x6b\x7c\xac\x04\x40\x7c", "0000000000000000 7c6b2264 tlbie r4,r3,2,1,1\n0000000000000004 7c4004ac sync 2\n"),
+        Case(b"\xa6\x03\x7a\x7c\x02\x1a\x22\x4c", "0000000000000000 7c7a03a6 mtspr 26,r3\n0000000000000004 4c221a02 crand 1,2,3\n"),
+        Case(b"\xff\xff\x23\x2c\0\0\0\x60", "0000000000000000 2c23ffff cmpi 0,1,r3,-1\n0000000000000004 60000000 ori r0,r0,0\n"),
+        Case(b"\x08\0\x23\xc8\xce\x20\x23\x7c", "0000000000000000 c8230008 .long 0xc8230008\n0000000000000004 7c2320ce .long 0x7c2320ce\n"),
+        Case(b"\0\0\0\x06\x08\0\x23\xc8", "0000000000000000 06000000 .long 0x06000000\n0000000000000004 c8230008 .long 0xc8230008\n"),
+        Case(b"\x02\0\x23\xe4\0\0\x64\xb8", "0000000000000000 e4230002 .long 0xe4230002\n0000000000000004 b8640000 .long 0xb8640000\n"),
+        Case(b"\x2a\x2c\x64\x7c\x08\0\x63\x84", "0000000000000000 7c642c2a .long 0x7c642c2a\n0000000000000004 84630008 .long 0x84630008\n"),
+    ];
+
+    #[test]
+    fn images_have_their_lines(rt: HostRuntime) -> Result<(), Fail> {
+        for Case(image, text) in &CASES {
+            let printed = disassemble(rt.alloc(), image)?;
+            assert!(rt; printed.as_slice() == text.as_bytes(), "{text}");
+        }
+        Ok(())
+    }
+
+    /// A block's last word, in front of a word that would be its suffix.
+    static BLOCK_END: [u8; 68] = [
+        0, 0, 0, 0x60, 0, 0, 0, 0x60, 0, 0, 0, 0x60, 0, 0, 0, 0x60, 0, 0, 0, 0x60, 0, 0, 0, 0x60,
+        0, 0, 0, 0x60, 0, 0, 0, 0x60, 0, 0, 0, 0x60, 0, 0, 0, 0x60, 0, 0, 0, 0x60, 0, 0, 0, 0x60,
+        0, 0, 0, 0x60, 0, 0, 0, 0x60, 0, 0, 0, 0x60, 0, 0, 0x12, 6, 0, 0, 0x60, 0x38,
+    ];
+
+    #[test]
+    fn prefix_at_a_blocks_end_has_no_suffix(rt: HostRuntime) -> Result<(), Fail> {
+        let printed = disassemble(rt.alloc(), &BLOCK_END)?;
+        let end =
+            "000000000000003c 06120000 .long 0x06120000\n0000000000000040 38600000 addi r3,r0,0\n";
+        assert!(rt; printed.as_slice().ends_with(end.as_bytes()));
+        Ok(())
+    }
+}
