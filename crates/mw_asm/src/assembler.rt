@@ -65,7 +65,8 @@ fn pass_twice(alloc: Global, source: &[u8]) -> Result<Bytes, AsmFault>
 /// A line is blank, or has an optional label `name:`, then an optional statement: a directive or an
 /// instruction with its operands. `#` begins a comment. Lines are read twice: the first pass places
 /// labels and refuses what is wrong before values are known, in order of lines; the second gives the
-/// bytes and refuses labels that aren't defined and values out of range.
+/// bytes and refuses labels that aren't defined and values out of range. A source of more than 4 MiB is
+/// refused at its first byte past the limit, before all else. The other error is want of memory.
 pub fn assemble(alloc: Global, source: &[u8]) -> Result<Bytes, AsmFault>
     ensures ok { IfOk result (λ bytes. assembled source.now ≡ Ok bytes) }
     ensures bad { IfErr result (λ fault. IfBad fault (λ place. assembled source.now ≡ Err place)) }

@@ -6,7 +6,7 @@ use std::test::Fail;
 struct Image(&'static [u8], &'static [u8]);
 
 #[rattlefmt::skip]
-static IMAGES: [Image; 21] = [
+static IMAGES: [Image; 22] = [
     Image(b"", b""),
     Image(b"\n \n# text\n", b""),
     Image(b"li r3,5\nb .", b"\x05\x00\x60\x38\x00\x00\x00\x48"),
@@ -35,6 +35,7 @@ static IMAGES: [Image; 21] = [
     Image(b".long -0x80000000,0xffffffff", b"\x00\x00\x00\x80\xff\xff\xff\xff"),
     Image(b".quad -0x8000000000000000,0xffffffffffffffff", b"\x00\x00\x00\x00\x00\x00\x00\x80\xff\xff\xff\xff\xff\xff\xff\xff"),
     Image(b".be64 -0x8000000000000000,1", b"\x80\x00\x00\x00\x00\x00\x00\x00\x00\x00\x00\x00\x00\x00\x00\x01"),
+    Image(b".be64 0xffffffffffffffff", b"\xff\xff\xff\xff\xff\xff\xff\xff"),
     Image(b".quad 0x8000000000000000+0x7fffffffffffffff", b"\xff\xff\xff\xff\xff\xff\xff\xff"),
 ];
 
@@ -50,7 +51,7 @@ fn sources_give_their_bytes(rt: HostRuntime) {
 struct Refused(&'static [u8], u32, u32, What);
 
 #[rattlefmt::skip]
-static REFUSED: [Refused; 35] = [
+static REFUSED: [Refused; 38] = [
     Refused(b"nop @", 1, 5, What::Token),
     Refused(b"frob r3", 1, 1, What::Name),
     Refused(b"li r3", 1, 6, What::Operand),
@@ -81,6 +82,9 @@ static REFUSED: [Refused; 35] = [
     Refused(b".long 0,0x100000000", 1, 9, What::Range),
     Refused(b".quad 0xffffffffffffffff+1", 1, 7, What::Range),
     Refused(b".be64 -0x8000000000000000-1", 1, 7, What::Range),
+    Refused(b".long -0x80000001", 1, 7, What::Range),
+    Refused(b".quad -0x8000000000000000-1", 1, 7, What::Range),
+    Refused(b".be64 0xffffffffffffffff+1", 1, 7, What::Range),
     // The first one in a statement, in a line, in a pass.
     Refused(b"addi 99,r0,nolabel", 1, 6, What::Range),
     Refused(b"addi r3,nolabel,99999", 1, 9, What::Label),
