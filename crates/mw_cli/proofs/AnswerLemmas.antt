@@ -13,7 +13,7 @@ use Rattle.mw_cli.specs.declared.status.Status.{Status}
 use Rattle.mw_cli.specs.declared.status.Status.TheVariants.{Done, Usage, ReadFault, WriteFault, ImageTooLarge, BadInput, NoMemory, Unbuilt}
 use Rattle.mw_cli.specs.declared.refusal.Refusal.{Refusal}
 use Rattle.mw_cli.specs.declared.refusal.Refusal.TheVariants.{Unreadable, Unwritable, TooLarge, Bad, NotBuilt}
-use Rattle.mw_cli.specs.Command.{RunOrder, Order, Run, Assemble, name_of, IsRunAnd, IsAssembleAnd, order_of}
+use Rattle.mw_cli.specs.Command.{RunOrder, Order, Run, Assemble, Disassemble, name_of, IsRunAnd, IsAssembleAnd, IsImageAnd, order_of}
 use Rattle.mw_cli.specs.Headline.{Prints, SpellsRun}
 use Rattle.mw_cli.specs.Outside.{Reading, IsSource, TookUnlessFault}
 use Rattle.mw_cli.specs.Answers.{Call, Says, Answers, Asks, Written, HasCause, Refused, line_of, IsTooLong, StopsAt, ReachesUnbuilt, IsRefusedAt}
@@ -92,6 +92,26 @@ long-shows call order told asks h =
     let same = is_content call.host order.image told p.0.0 asks.1 p.0.1 in
     subst (λ (bytes : List ℕ). 16777216 < length bytes) same p.0.2
 
+-- and one that was to be disassembled
+long-image-shows : (call : Call) (image : List ℕ) (told : List ℕ → Option (List ℕ)) → Asks call (Disassemble image) told → Refused call TooLarge → 16777216 < length (content_of told image)
+long-image-shows call image told asks h =
+    let p = refused-as call (Disassemble image) TooLarge asks.0 h in
+    let same = is_content call.host image told p.0.0 asks.1 p.0.1 in
+    subst (λ (bytes : List ℕ). 16777216 < length bytes) same p.0.2
+
+-- an image whose disassembly, or a front of it, was written fits
+listed-shows : (call : Call) (image : List ℕ) (told : List ℕ → Option (List ℕ)) → Asks call (Disassemble image) told → IsSomeAnd (order_of call.words) (Written call.host call.out) → length (content_of told image) ≤ 16777216
+listed-shows call image told asks h =
+    let p = done-as call (Disassemble image) asks.0 h in
+    let same = is_content call.host image told p.0 asks.1 p.2 in
+    subst (λ (bytes : List ℕ). length bytes ≤ 16777216) same p.3
+
+front-listed-shows : (call : Call) (image : List ℕ) (told : List ℕ → Option (List ℕ)) → Asks call (Disassemble image) told → Refused call Unwritable → length (content_of told image) ≤ 16777216
+front-listed-shows call image told asks h =
+    let p = refused-as call (Disassemble image) Unwritable asks.0 h in
+    let same = is_content call.host image told p.1.0 asks.1 p.1.3 in
+    subst (λ (bytes : List ℕ). length bytes ≤ 16777216) same p.1.4
+
 -- an instruction that isn't built
 stop-shows : (call : Call) (order : RunOrder) (told : List ℕ → Option (List ℕ)) (cia : ℕ) → Asks call (Run order) told → Refused call (NotBuilt cia) → (length (content_of told order.image) ≤ 16777216) × ReachesUnbuilt (content_of told order.image) order.cycles cia
 stop-shows call order told cia asks h =
@@ -102,6 +122,13 @@ stop-shows call order told cia asks h =
 -- a run isn't refused as a source
 run-not-bad : (call : Call) (order : RunOrder) (line column : ℕ) → order_of call.words ≡ Some (Run order) → Refused call (Bad line column) → ⊥
 run-not-bad call order line column asks h = (refused-as call (Run order) (Bad line column) asks h).0
+
+-- nor is an image that is disassembled, and no instruction of it is
+image-not-bad : (call : Call) (image : List ℕ) (line column : ℕ) → order_of call.words ≡ Some (Disassemble image) → Refused call (Bad line column) → ⊥
+image-not-bad call image line column asks h = (refused-as call (Disassemble image) (Bad line column) asks h).0
+
+image-not-unbuilt : (call : Call) (image : List ℕ) (cia : ℕ) → order_of call.words ≡ Some (Disassemble image) → Refused call (NotBuilt cia) → ⊥
+image-not-unbuilt call image cia asks h = (refused-as call (Disassemble image) (NotBuilt cia) asks h).0
 
 -- a source isn't refused as an image
 source-not-long : (call : Call) (source : List ℕ) → order_of call.words ≡ Some (Assemble source) → Refused call TooLarge → ⊥
@@ -152,11 +179,13 @@ built_or_not image n cia none (cycle, some) = cc
 run-also : (order : Order) (P Q : RunOrder → Type 0) → IsRunAnd order P → ((run : RunOrder) → P run → Q run) → IsRunAnd order Q
 run-also (Run run) P Q h f = f run h
 run-also (Assemble source) P Q h f = absurd h
+run-also (Disassemble image) P Q h f = absurd h
 
 -- and so with a source
 source-also : (order : Order) (P Q : List ℕ → Type 0) → IsAssembleAnd order P → ((source : List ℕ) → P source → Q source) → IsAssembleAnd order Q
 source-also (Run run) P Q h f = absurd h
 source-also (Assemble source) P Q h f = f source h
+source-also (Disassemble image) P Q h f = absurd h
 
 -- words that are an order aren't none
 some_or_none : (o : Option Order) (order : Order) → o ≡ Some order → o ≡ None → ⊥
@@ -172,12 +201,14 @@ answers call Done says = record {
   write_fault = λ e. absurd cc;
   too_large = λ e. absurd cc;
   always_too_large = λ order told asks long. absurd (let fits = (printed-shows call order told asks says.0).0 in omega arith);
+  always_too_large_disassembly = λ image told asks long. absurd (let fits = listed-shows call image told asks says.0 in omega arith);
   unbuilt = λ e. absurd cc;
   always_unbuilt = λ order told cia asks fits stop. absurd (built_or_not _ _ cia (printed-shows call order told asks says.0).1 stop);
   bad_input = λ e. absurd cc;
   always_bad_input = λ source told place asks err. absurd (stored-not-refused call source told place asks err says.0);
   complete = λ order told asks fits built host out. inl refl;
   complete_source = λ source told bytes asks ok host out. inl refl;
+  complete_disassembly = λ image told asks fits host out. inl refl;
 }
 answers call Usage says = record {
   says = says;
@@ -187,12 +218,14 @@ answers call Usage says = record {
   write_fault = λ e. absurd cc;
   too_large = λ e. absurd cc;
   always_too_large = λ order told asks long. absurd (some_or_none _ (Run order) asks.0 says.0);
+  always_too_large_disassembly = λ image told asks long. absurd (some_or_none _ (Disassemble image) asks.0 says.0);
   unbuilt = λ e. absurd cc;
   always_unbuilt = λ order told cia asks fits stop. absurd (some_or_none _ (Run order) asks.0 says.0);
   bad_input = λ e. absurd cc;
   always_bad_input = λ source told place asks err. absurd (some_or_none _ (Assemble source) asks.0 says.0);
   complete = λ order told asks fits built host out. absurd (some_or_none _ (Run order) asks.0 says.0);
   complete_source = λ source told bytes asks ok host out. absurd (some_or_none _ (Assemble source) asks.0 says.0);
+  complete_disassembly = λ image told asks fits host out. absurd (some_or_none _ (Disassemble image) asks.0 says.0);
 }
 answers call ReadFault says = record {
   says = says;
@@ -202,12 +235,14 @@ answers call ReadFault says = record {
   write_fault = λ e. absurd cc;
   too_large = λ e. absurd cc;
   always_too_large = λ order told asks long. inr (inl refl);
+  always_too_large_disassembly = λ image told asks long. inr (inl refl);
   unbuilt = λ e. absurd cc;
   always_unbuilt = λ order told cia asks fits stop. inr (inl refl);
   bad_input = λ e. absurd cc;
   always_bad_input = λ source told place asks err. inr (inl refl);
   complete = λ order told asks fits built host out. absurd (host (cause-gives call Unreadable says (λ order c. c.0.0)));
   complete_source = λ source told bytes asks ok host out. absurd (host (cause-gives call Unreadable says (λ order c. c.0.0)));
+  complete_disassembly = λ image told asks fits host out. absurd (host (cause-gives call Unreadable says (λ order c. c.0.0)));
 }
 answers call WriteFault says = record {
   says = says;
@@ -217,12 +252,14 @@ answers call WriteFault says = record {
   write_fault = λ e. cause-gives call Unwritable says (λ order c. c.0);
   too_large = λ e. absurd cc;
   always_too_large = λ order told asks long. absurd (let fits = (front-shows call order told asks says).0 in omega arith);
+  always_too_large_disassembly = λ image told asks long. absurd (let fits = front-listed-shows call image told asks says in omega arith);
   unbuilt = λ e. absurd cc;
   always_unbuilt = λ order told cia asks fits stop. absurd (built_or_not _ _ cia (front-shows call order told asks says).1 stop);
   bad_input = λ e. absurd cc;
   always_bad_input = λ source told place asks err. absurd (front-not-refused call source told place asks err says);
   complete = λ order told asks fits built host out. absurd (out (cause-gives call Unwritable says (λ order c. c.0)));
   complete_source = λ source told bytes asks ok host out. absurd (out (cause-gives call Unwritable says (λ order c. c.0)));
+  complete_disassembly = λ image told asks fits host out. absurd (out (cause-gives call Unwritable says (λ order c. c.0)));
 }
 answers call ImageTooLarge says = record {
   says = says;
@@ -230,14 +267,16 @@ answers call ImageTooLarge says = record {
   read_fault = λ e. absurd cc;
   absent = λ e. absurd cc;
   write_fault = λ e. absurd cc;
-  too_large = λ e. caused call TooLarge (λ order. IsRunAnd order (IsTooLong call.host)) says (λ order c. c.0);
+  too_large = λ e. caused call TooLarge (λ order. IsImageAnd order (IsTooLong call.host)) says (λ order c. c.0);
   always_too_large = λ order told asks long. inl refl;
+  always_too_large_disassembly = λ image told asks long. inl refl;
   unbuilt = λ e. absurd cc;
   always_unbuilt = λ order told cia asks fits stop. absurd (let long = long-shows call order told asks says in omega arith);
   bad_input = λ e. absurd cc;
   always_bad_input = λ source told place asks err. absurd (source-not-long call source asks.0 says);
   complete = λ order told asks fits built host out. absurd (let long = long-shows call order told asks says in omega arith);
   complete_source = λ source told bytes asks ok host out. absurd (source-not-long call source asks.0 says);
+  complete_disassembly = λ image told asks fits host out. absurd (let long = long-image-shows call image told asks says in omega arith);
 }
 answers call BadInput says = record {
   says = says;
@@ -247,12 +286,14 @@ answers call BadInput says = record {
   write_fault = λ e. absurd cc;
   too_large = λ e. absurd cc;
   always_too_large = λ order told asks long. absurd (run-not-bad call order says.0 says.1 asks.0 says.2);
+  always_too_large_disassembly = λ image told asks long. absurd (image-not-bad call image says.0 says.1 asks.0 says.2);
   unbuilt = λ e. absurd cc;
   always_unbuilt = λ order told cia asks fits stop. absurd (run-not-bad call order says.0 says.1 asks.0 says.2);
   bad_input = λ e. caused call (Bad says.0 says.1) (λ order. IsAssembleAnd order (λ source. (line : ℕ) × (column : ℕ) × IsRefusedAt call.host source line column)) says.2 (λ order c. source-also order (λ source. IsRefusedAt call.host source says.0 says.1) (λ source. (line : ℕ) × (column : ℕ) × IsRefusedAt call.host source line column) c.0 (λ source refused. (says.0, says.1, refused)));
   always_bad_input = λ source told place asks err. inl refl;
   complete = λ order told asks fits built host out. absurd (run-not-bad call order says.0 says.1 asks.0 says.2);
   complete_source = λ source told bytes asks ok host out. absurd (read-not-bad call source told bytes says.0 says.1 asks ok says.2);
+  complete_disassembly = λ image told asks fits host out. absurd (image-not-bad call image says.0 says.1 asks.0 says.2);
 }
 answers call NoMemory says = record {
   says = says;
@@ -262,12 +303,14 @@ answers call NoMemory says = record {
   write_fault = λ e. absurd cc;
   too_large = λ e. absurd cc;
   always_too_large = λ order told asks long. inr (inr refl);
+  always_too_large_disassembly = λ image told asks long. inr (inr refl);
   unbuilt = λ e. absurd cc;
   always_unbuilt = λ order told cia asks fits stop. inr (inr refl);
   bad_input = λ e. absurd cc;
   always_bad_input = λ source told place asks err. inr (inr refl);
   complete = λ order told asks fits built host out. inr refl;
   complete_source = λ source told bytes asks ok host out. inr refl;
+  complete_disassembly = λ image told asks fits host out. inr refl;
 }
 answers call Unbuilt says = record {
   says = says;
@@ -277,10 +320,12 @@ answers call Unbuilt says = record {
   write_fault = λ e. absurd cc;
   too_large = λ e. absurd cc;
   always_too_large = λ order told asks long. absurd (let fits = (stop-shows call order told says.0 asks says.1).0 in omega arith);
+  always_too_large_disassembly = λ image told asks long. absurd (image-not-unbuilt call image says.0 asks.0 says.1);
   unbuilt = λ e. caused call (NotBuilt says.0) (λ order. IsRunAnd order (λ run. (cia : ℕ) × StopsAt call.host run cia)) says.1 (λ order c. run-also order (λ run. StopsAt call.host run says.0) (λ run. (cia : ℕ) × StopsAt call.host run cia) c.0 (λ run stops. (says.0, stops)));
   always_unbuilt = λ order told cia asks fits stop. inl refl;
   bad_input = λ e. absurd cc;
   always_bad_input = λ source told place asks err. absurd (source-not-unbuilt call source says.0 asks.0 says.1);
   complete = λ order told asks fits built host out. absurd (built_or_not _ _ says.0 built (stop-shows call order told says.0 asks says.1).1);
   complete_source = λ source told bytes asks ok host out. absurd (source-not-unbuilt call source says.0 asks.0 says.1);
+  complete_disassembly = λ image told asks fits host out. absurd (image-not-unbuilt call image says.0 asks.0 says.1);
 }

@@ -6,11 +6,12 @@ use Rattle.mw_isa.specs.Text.{hex}
 use Rattle.mw_asm.specs.declared.fault.What.{What}
 use Rattle.mw_asm.specs.declared.fault.Place.{Place}
 use Rattle.mw_asm.specs.Assembled.{assembled}
+use Rattle.mw_asm.specs.Disassembly.{disassembly}
 use Rattle.mw_cli.specs.declared.status.Status.{Status}
 use Rattle.mw_cli.specs.declared.status.Status.TheVariants.{Done, Usage, ReadFault, WriteFault, ImageTooLarge, BadInput, NoMemory, Unbuilt}
 use Rattle.mw_cli.specs.declared.refusal.Refusal.{Refusal}
 use Rattle.mw_cli.specs.declared.refusal.Refusal.TheVariants.{Unreadable, Unwritable, TooLarge, Bad, OutOfMemory, NotBuilt}
-use Rattle.mw_cli.specs.Command.{RunOrder, Order, Run, Assemble, IsRunAnd, IsAssembleAnd, name_of, order_of}
+use Rattle.mw_cli.specs.Command.{RunOrder, Order, Run, Assemble, Disassemble, IsRunAnd, IsAssembleAnd, IsImageAnd, name_of, order_of}
 use Rattle.mw_cli.specs.Headline.{SpellsRun}
 use Rattle.mw_cli.specs.Outside.{Reading, Writing, IsImage, IsSource, TookNothing, Took, TookUnlessFault}
 
@@ -23,11 +24,11 @@ pub record Call : Type 0 where
 
 -- out took the text of a run of the file's image
 abbrev pub Printed : Reading → Writing → RunOrder → Type 0
-Printed host out order = (image : List ℕ) × (text : List ℕ) × IsImage host order image × SpellsRun image order.cycles order.dump text × Took out text
+Printed host out order = (image : List ℕ) × (text : List ℕ) × IsImage host order.image image × SpellsRun image order.cycles order.dump text × Took out text
 
 -- out took a front of such a text
 abbrev pub PrintedFront : Reading → Writing → RunOrder → Type 0
-PrintedFront host out order = (image : List ℕ) × (text : List ℕ) × (k : ℕ) × IsImage host order image × SpellsRun image order.cycles order.dump text × Took out (take k text)
+PrintedFront host out order = (image : List ℕ) × (text : List ℕ) × (k : ℕ) × IsImage host order.image image × SpellsRun image order.cycles order.dump text × Took out (take k text)
 
 -- out took the bytes of the source of this name
 abbrev pub Stored : Reading → Writing → List ℕ → Type 0
@@ -37,23 +38,33 @@ Stored host out name = (source : List ℕ) × (bytes : List ℕ) × IsSource hos
 abbrev pub StoredFront : Reading → Writing → List ℕ → Type 0
 StoredFront host out name = (source : List ℕ) × (bytes : List ℕ) × (k : ℕ) × IsSource host name source × (assembled source ≡ Ok bytes) × Took out (take k bytes)
 
+-- out took the disassembly of the image of this name, which fits RAM
+abbrev pub Listed : Reading → Writing → List ℕ → Type 0
+Listed host out name = (image : List ℕ) × (text : List ℕ) × IsImage host name image × (length image ≤ 16777216) × (text ≡ disassembly image) × Took out text
+
+-- out took a front of this disassembly
+abbrev pub ListedFront : Reading → Writing → List ℕ → Type 0
+ListedFront host out name = (image : List ℕ) × (text : List ℕ) × (k : ℕ) × IsImage host name image × (length image ≤ 16777216) × (text ≡ disassembly image) × Took out (take k text)
+
 -- out took what is ordered
 abbrev pub Written : Reading → Writing → Order → Type 0
 Written host out (Run order) = Printed host out order
 Written host out (Assemble source) = Stored host out source
+Written host out (Disassemble image) = Listed host out image
 
 -- out took a front of what is ordered
 abbrev pub WrittenFront : Reading → Writing → Order → Type 0
 WrittenFront host out (Run order) = PrintedFront host out order
 WrittenFront host out (Assemble source) = StoredFront host out source
+WrittenFront host out (Disassemble image) = ListedFront host out image
 
 -- the host's count rose, and over a sound host the file of this name isn't there
 abbrev pub IsUnread : Reading → List ℕ → Type 0
 IsUnread host name = Rose host.faults_before host.faults_after × (IsTrue host.sound → IsSomeAnd host.files (λ told. told name ≡ None))
 
--- the image is longer than RAM
-abbrev pub IsTooLong : Reading → RunOrder → Type 0
-IsTooLong host order = (image : List ℕ) × IsImage host order image × (16777216 < length image)
+-- the image of this name is longer than RAM
+abbrev pub IsTooLong : Reading → List ℕ → Type 0
+IsTooLong host name = (image : List ℕ) × IsImage host name image × (16777216 < length image)
 
 -- the first instruction that isn't built, of those that a run of the image reaches, is at this address
 abbrev pub ReachesUnbuilt : List ℕ → ℕ → ℕ → Type 0
@@ -61,7 +72,7 @@ ReachesUnbuilt image n cia = (cycle : ℕ) × (first_unbuilt image n ≡ Some (c
 
 -- a run of the image, which fits RAM, reaches an instruction that isn't built, first the one at this address
 abbrev pub StopsAt : Reading → RunOrder → ℕ → Type 0
-StopsAt host order cia = (image : List ℕ) × IsImage host order image × (length image ≤ 16777216) × ReachesUnbuilt image order.cycles cia
+StopsAt host order cia = (image : List ℕ) × IsImage host order.image image × (length image ≤ 16777216) × ReachesUnbuilt image order.cycles cia
 
 -- a source is refused, first at this line and column
 abbrev pub RefusesAt : List ℕ → ℕ → ℕ → Type 0
@@ -74,7 +85,7 @@ IsRefusedAt host name line column = (source : List ℕ) × IsSource host name so
 -- why an order was refused, and what out took then; want of memory is free
 abbrev pub HasCause : Reading → Writing → Order → Refusal → Type 0
 HasCause host out order Unreadable = IsUnread host (name_of order) × TookNothing out
-HasCause host out order TooLarge = IsRunAnd order (IsTooLong host) × TookNothing out
+HasCause host out order TooLarge = IsImageAnd order (IsTooLong host) × TookNothing out
 HasCause host out order (NotBuilt cia) = IsRunAnd order (λ run. StopsAt host run cia) × TookNothing out
 HasCause host out order (Bad line column) = IsAssembleAnd order (λ source. IsRefusedAt host source line column) × TookNothing out
 HasCause host out order Unwritable = Rose out.faults_before out.faults_after × WrittenFront host out order
@@ -130,10 +141,12 @@ pub record Answers (call : Call) (status : Status) : Type 0 where
   pub absent : status ≡ ReadFault → IsTrue call.host.sound → IsSomeAnd (order_of call.words) (λ order. IsSomeAnd call.host.files (λ told. told (name_of order) ≡ None))
   -- with WriteFault out's count of faults rose
   pub write_fault : status ≡ WriteFault → Rose call.out.faults_before call.out.faults_after
-  -- with ImageTooLarge the words ask for a run, and the image is longer than RAM
-  pub too_large : status ≡ ImageTooLarge → IsSomeAnd (order_of call.words) (λ order. IsRunAnd order (IsTooLong call.host))
+  -- with ImageTooLarge the words ask for a run or a disassembly, and the image is longer than RAM
+  pub too_large : status ≡ ImageTooLarge → IsSomeAnd (order_of call.words) (λ order. IsImageAnd order (IsTooLong call.host))
   -- and always there, but for a file that isn't read and for want of memory
   pub always_too_large : (order : RunOrder) (told : List ℕ → Option (List ℕ)) → Asks call (Run order) told → 16777216 < length (content_of told order.image) → (status ≡ ImageTooLarge) ⊎ YieldsTo status
+  -- with a disassembly as with a run
+  pub always_too_large_disassembly : (image : List ℕ) (told : List ℕ → Option (List ℕ)) → Asks call (Disassemble image) told → 16777216 < length (content_of told image) → (status ≡ ImageTooLarge) ⊎ YieldsTo status
   -- with Unbuilt the words ask for a run, which reaches an instruction that isn't built
   pub unbuilt : status ≡ Unbuilt → IsSomeAnd (order_of call.words) (λ order. IsRunAnd order (λ run. (cia : ℕ) × StopsAt call.host run cia))
   -- and always there, but for a file that isn't read and for want of memory
@@ -147,3 +160,5 @@ pub record Answers (call : Call) (status : Status) : Type 0 where
   pub complete : (order : RunOrder) (told : List ℕ → Option (List ℕ)) → Asks call (Run order) told → length (content_of told order.image) ≤ 16777216 → first_unbuilt (content_of told order.image) order.cycles ≡ None → ¬ (Rose call.host.faults_before call.host.faults_after) → ¬ (Rose call.out.faults_before call.out.faults_after) → (status ≡ Done) ⊎ (status ≡ NoMemory)
   -- and a source that isn't refused, where neither count rose
   pub complete_source : (source : List ℕ) (told : List ℕ → Option (List ℕ)) (bytes : List ℕ) → Asks call (Assemble source) told → assembled (content_of told source) ≡ Ok bytes → ¬ (Rose call.host.faults_before call.host.faults_after) → ¬ (Rose call.out.faults_before call.out.faults_after) → (status ≡ Done) ⊎ (status ≡ NoMemory)
+  -- and the disassembly of an image that fits, where neither count rose
+  pub complete_disassembly : (image : List ℕ) (told : List ℕ → Option (List ℕ)) → Asks call (Disassemble image) told → length (content_of told image) ≤ 16777216 → ¬ (Rose call.host.faults_before call.host.faults_after) → ¬ (Rose call.out.faults_before call.out.faults_after) → (status ≡ Done) ⊎ (status ≡ NoMemory)

@@ -5,7 +5,7 @@ use Rattle.std.specs.Str.Parse.{digits_value}
 use Rattle.mw_isa.specs.declared.access.Span.{Span}
 use Rattle.mw_cli.specs.declared.command.RunCommand.{RunCommand}
 use Rattle.mw_cli.specs.declared.command.Command.{Command}
-use Rattle.mw_cli.specs.declared.command.Command.TheVariants.{Run as RunWords, Assemble as AssembleWords}
+use Rattle.mw_cli.specs.declared.command.Command.TheVariants.{Run as RunWords, Assemble as AssembleWords, Disassemble as DisassembleWords}
 
 -- run IMAGE --cycles N, with --dump A:L or without: the image's name, the number of cycles, and the stretch of RAM
 pub record RunOrder : Type 0 where
@@ -13,30 +13,42 @@ pub record RunOrder : Type 0 where
   pub cycles : ℕ
   pub dump : Option Span
 
--- what the words ask for: a run, or with asm SOURCE the image of the source of this name
+-- what the words ask for: a run, or with asm SOURCE the image of the source of this name, or with dis IMAGE the
+-- disassembly of the image of this name
 pub data Order : Type 0 where
   Run : RunOrder → Order
   Assemble : List ℕ → Order
+  Disassemble : List ℕ → Order
 
 -- the name of the file that an order reads
 abbrev pub name_of : Order → List ℕ
 name_of (Run order) = order.image
 name_of (Assemble source) = source
+name_of (Disassemble image) = image
 
--- the most bytes that this file may have: as many as RAM, or 4 MiB
+-- the most bytes that this file may have: an image as many as RAM, and a source 4 MiB
 abbrev pub most_of : Order → ℕ
 most_of (Run order) = 16777216
 most_of (Assemble source) = 4194304
+most_of (Disassemble image) = 16777216
 
 -- the order is a run that has this
 abbrev pub IsRunAnd : Order → (RunOrder → Type 0) → Type 0
 IsRunAnd (Run order) P = P order
 IsRunAnd (Assemble source) P = ⊥
+IsRunAnd (Disassemble image) P = ⊥
 
 -- the order is to assemble a source whose name has this
 abbrev pub IsAssembleAnd : Order → (List ℕ → Type 0) → Type 0
 IsAssembleAnd (Run order) P = ⊥
 IsAssembleAnd (Assemble source) P = P source
+IsAssembleAnd (Disassemble image) P = ⊥
+
+-- the order is of an image, to run it or to disassemble it, whose name has this
+abbrev pub IsImageAnd : Order → (List ℕ → Type 0) → Type 0
+IsImageAnd (Run order) P = P order.image
+IsImageAnd (Assemble source) P = ⊥
+IsImageAnd (Disassemble image) P = P image
 
 -- the run that the code's object stands for
 abbrev pub run_in : RunCommand → RunOrder
@@ -46,11 +58,13 @@ run_in command = record { image = command.image.now; cycles = command.cycles; du
 abbrev pub order_in : Command → Order
 order_in (RunWords command) = Run (run_in command)
 order_in (AssembleWords source) = Assemble source.now
+order_in (DisassembleWords image) = Disassemble image.now
 
 -- a run of the code is asked for within its limits
 abbrev pub IsBounded : Command → Type 0
 IsBounded (RunWords command) = (command.cycles ≤ 4000000) × IfSome command.dump (λ span. span.at + span.len ≤ 16777216)
 IsBounded (AssembleWords source) = Unit {0}
+IsBounded (DisassembleWords image) = Unit {0}
 
 -- a name: not empty, and not beginning with a minus
 abbrev pub is_name : List ℕ → Bool
@@ -86,13 +100,13 @@ dump_by option word = if bytes_eq option (codes "--dump") then span_of word else
 abbrev pub order_by : List ℕ → List ℕ → List ℕ → List ℕ → Option Span → Option Order
 order_by verb image option number dump = if bytes_eq verb (codes "run") && (is_name image && bytes_eq option (codes "--cycles")) then option_map (λ n. Run (record { image = image; cycles = n; dump = dump })) (number_up_to 4000000 number) else None
 
--- an order of these two words, if they are in its grammar
-abbrev pub source_by : List ℕ → List ℕ → Option Order
-source_by verb source = if bytes_eq verb (codes "asm") && is_name source then Some (Assemble source) else None
+-- an order of these two words, if they are in the grammar of one
+abbrev pub file_by : List ℕ → List ℕ → Option Order
+file_by verb name = if bytes_eq verb (codes "asm") && is_name name then Some (Assemble name) else if bytes_eq verb (codes "dis") && is_name name then Some (Disassemble name) else None
 
--- what the words behind the program's name say, if they are in one of the two grammars
+-- what the words behind the program's name say, if they are in one of the three grammars
 unfoldable pub order_of : List (List ℕ) → Option Order
-order_of (verb ∷ source ∷ []) = source_by verb source
+order_of (verb ∷ name ∷ []) = file_by verb name
 order_of (verb ∷ image ∷ option ∷ number ∷ []) = order_by verb image option number None
 order_of (verb ∷ image ∷ option ∷ number ∷ second ∷ word ∷ []) = option_and_then (λ span. order_by verb image option number (Some span)) (dump_by second word)
 order_of words = None

@@ -1,7 +1,6 @@
 -- What a call of the program's main function was given, and what the outside shows before it and after it.
 use Rattle.std.specs.Prelude.{ℕ, ◌+◌, ◌≡◌, ◌≤◌, ◌⊎◌, Bool, List, length, take, Option, IfSome, IsTrue}
 use Rattle.mw_io.specs.Outside.{Rose, IsReadOn, content_of, with_more}
-use Rattle.mw_cli.specs.Command.{RunOrder}
 
 -- a host: its files where it tells them, whether it is sound, and its count of faults before and after
 pub record Reading : Type 0 where
@@ -19,11 +18,11 @@ pub record Writing : Type 0 where
   pub wants_before : ℕ
   pub wants_after : ℕ
 
--- the image is the file's content, where the files are told
-abbrev pub IsImage : Reading → RunOrder → List ℕ → Type 0
-IsImage host order image = IfSome host.files (λ told. image ≡ content_of told order.image)
+-- the image is the content of the file of this name, where the files are told
+abbrev pub IsImage : Reading → List ℕ → List ℕ → Type 0
+IsImage host name image = IfSome host.files (λ told. image ≡ content_of told name)
 
--- the source is the content of the file of this name, where the files are told
+-- and so with a source
 abbrev pub IsSource : Reading → List ℕ → List ℕ → Type 0
 IsSource host name source = IfSome host.files (λ told. source ≡ content_of told name)
 

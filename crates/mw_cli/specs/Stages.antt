@@ -1,11 +1,11 @@
 -- What the parts of a run say, each of its own refusals.
-use Rattle.std.specs.Prelude.{ℕ, ◌+◌, ◌≡◌, List, take, Ok, IfSome}
+use Rattle.std.specs.Prelude.{ℕ, ◌+◌, ◌≡◌, ◌≤◌, List, length, take, Ok, IfSome}
 use Rattle.mw_io.specs.Outside.{Rose, content_of}
 use Rattle.mw_asm.specs.Assembled.{assembled}
+use Rattle.mw_asm.specs.Disassembly.{disassembly}
 use Rattle.mw_cli.specs.declared.refusal.Refusal.{Refusal}
 use Rattle.mw_cli.specs.declared.refusal.Refusal.TheVariants.{Unreadable, Unwritable, TooLarge, Bad, OutOfMemory, NotBuilt}
-use Rattle.mw_cli.specs.Command.{RunOrder}
-use Rattle.mw_cli.specs.Outside.{Reading, Writing, IsSource, Took}
+use Rattle.mw_cli.specs.Outside.{Reading, Writing, IsImage, IsSource, Took}
 use Rattle.mw_cli.specs.Answers.{IsUnread, IsTooLong, ReachesUnbuilt, IsRefusedAt}
 
 -- these are the first bytes of the file of this name up to one past this limit, where the files are told
@@ -21,14 +21,14 @@ IsReadRefusal host name (Bad line column) = ⊥
 IsReadRefusal host name Unwritable = ⊥
 IsReadRefusal host name OutOfMemory = Unit {0}
 
--- why an image isn't there
-abbrev pub IsLoadRefusal : Reading → RunOrder → Refusal → Type 0
-IsLoadRefusal host order Unreadable = IsUnread host order.image
-IsLoadRefusal host order TooLarge = IsTooLong host order
-IsLoadRefusal host order (NotBuilt cia) = ⊥
-IsLoadRefusal host order (Bad line column) = ⊥
-IsLoadRefusal host order Unwritable = ⊥
-IsLoadRefusal host order OutOfMemory = Unit {0}
+-- why the image of this name isn't there, or its disassembly
+abbrev pub IsLoadRefusal : Reading → List ℕ → Refusal → Type 0
+IsLoadRefusal host name Unreadable = IsUnread host name
+IsLoadRefusal host name TooLarge = IsTooLong host name
+IsLoadRefusal host name (NotBuilt cia) = ⊥
+IsLoadRefusal host name (Bad line column) = ⊥
+IsLoadRefusal host name Unwritable = ⊥
+IsLoadRefusal host name OutOfMemory = Unit {0}
 
 -- why there is no text
 abbrev pub IsRunRefusal : List ℕ → ℕ → Refusal → Type 0
@@ -38,6 +38,10 @@ IsRunRefusal image n (NotBuilt cia) = ReachesUnbuilt image n cia
 IsRunRefusal image n (Bad line column) = ⊥
 IsRunRefusal image n Unwritable = ⊥
 IsRunRefusal image n OutOfMemory = Unit {0}
+
+-- this is the disassembly of the image of this name, which fits RAM
+abbrev pub Lists : Reading → List ℕ → List ℕ → Type 0
+Lists host name text = (image : List ℕ) × IsImage host name image × (length image ≤ 16777216) × (text ≡ disassembly image)
 
 -- these are the bytes that the source of this name gives
 abbrev pub Gives : Reading → List ℕ → List ℕ → Type 0

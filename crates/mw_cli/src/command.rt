@@ -1,5 +1,5 @@
 ghost use Rattle.std.specs.Prelude.{◌≡◌, ◌+◌, ◌≤◌, map, string_bytes, option_map, IfSome, bytes_eq, decimal};
-ghost use Rattle.mw_cli.specs.Command.{order_in, order_of, name_of, IsBounded, is_name, number_up_to, span_by, span_of, dump_by, order_by, source_by};
+ghost use Rattle.mw_cli.specs.Command.{order_in, order_of, name_of, IsBounded, is_name, number_up_to, span_by, span_of, dump_by, order_by, file_by};
 
 use mw_isa::Span;
 
@@ -33,6 +33,11 @@ pub enum Command<'a> {
         /// The name of the source's file. In an order it is not empty and doesn't begin with a minus.
         source: &'a str,
     },
+    /// The disassembly of an image.
+    Disassemble {
+        /// The name of the image's file. In an order it is not empty and doesn't begin with a minus.
+        image: &'a str,
+    },
 }
 
 impl<'a> Command<'a> {
@@ -43,6 +48,7 @@ impl<'a> Command<'a> {
         match self {
             Command::Run(command) => command.image,
             Command::Assemble { source } => *source,
+            Command::Disassemble { image } => *image,
         }
     }
 }
@@ -147,26 +153,28 @@ fn order<'a>(
     }
 }
 
-/// What two words ask for, if they ask for the image of a source.
-fn assembly<'a>(verb: &str, source: &'a str) -> Option<Command<'a>>
-    ensures value { option_map order_in result ≡ source_by verb.now source.now }
+/// What two words ask for, if they ask for the image of a source or for the disassembly of an image.
+fn file_order<'a>(verb: &str, name: &'a str) -> Option<Command<'a>>
+    ensures value { option_map order_in result ≡ file_by verb.now name.now }
     ensures bounded { IfSome result IsBounded }
 {
-    if verb == "asm" && can_name(source) {
-        Some(Command::Assemble { source })
+    if verb == "asm" && can_name(name) {
+        Some(Command::Assemble { source: name })
+    } else if verb == "dis" && can_name(name) {
+        Some(Command::Disassemble { image: name })
     } else {
         None
     }
 }
 
-/// What the words behind the program's name ask for, if they are in one of the two grammars.
+/// What the words behind the program's name ask for, if they are in one of the three grammars.
 #[tactic(auto, unfolding(crate::specs::Command::order_of))]
 pub fn read_words(words: &[String]) -> Option<Command<'_>>
     ensures value { option_map order_in result ≡ order_of (map string_bytes words.now) }
     ensures bounded { IfSome result IsBounded }
 {
     match words {
-        [verb, source] => assembly(verb.as_str(), source.as_str()),
+        [verb, name] => file_order(verb.as_str(), name.as_str()),
         [verb, image, option, digits] => order(
             verb.as_str(),
             image.as_str(),

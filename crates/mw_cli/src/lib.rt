@@ -3,6 +3,7 @@
 
 mod assembly;
 mod command;
+mod disassembly;
 mod main_call;
 mod refusal;
 mod report;

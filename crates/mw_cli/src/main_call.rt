@@ -6,6 +6,7 @@ ghost use Rattle.mw_cli.specs.Numbers.{status_of};
 
 use crate::assembly::store;
 use crate::command::{Command, read_words};
+use crate::disassembly::list;
 use crate::refusal::Refusal;
 use crate::report::{report, report_usage};
 use crate::run::run;
@@ -47,6 +48,7 @@ fn fulfil<H: Host, S: Sink>(
     match command {
         Command::Run(command) => run(alloc, command, host, out),
         Command::Assemble { source } => store(alloc, *source, host, out),
+        Command::Disassemble { image } => list(alloc, *image, host, out),
     }
 }
 
@@ -85,10 +87,11 @@ fn obey<H: Host, O: Sink, E: Sink>(
 /// reads the image from the host, 16,777,216 bytes at most, runs it from address 0 for N cycles, at most 4,000,000, and
 /// writes the text of the run to out. `--dump A:L` behind it adds the L bytes of RAM from real address A on, as the run
 /// leaves them: at least one byte and at most 65,536, all of them in RAM. `asm SOURCE` reads the source from the host,
-/// 4,194,304 bytes at most, and writes the bytes of its image to out. Reading stops one byte past the file's limit.
-/// `Done` leaves err as it was, and any other status writes its line there, or a front of it where a write to err
-/// fails; the status stays what it is. Out takes nothing under another status, but for `WriteFault` and `NoMemory`,
-/// which may leave a front of the text or of the image.
+/// 4,194,304 bytes at most, and writes the bytes of its image to out. `dis IMAGE` reads the image as `run` does, and
+/// writes the text of its disassembly to out. Reading stops one byte past the file's limit. `Done` leaves err as it was,
+/// and any other status writes its line there, or a front of it where a write to err fails; the status stays what it is.
+/// Out takes nothing under another status, but for `WriteFault` and `NoMemory`, which may leave a front of the text or
+/// of the image.
 pub fn mw_main<H: Host, O: Sink, E: Sink>(
     alloc: Global,
     words: &[String],

@@ -19,6 +19,6 @@ pub enum Refusal {
     },
     /// A write to out failed, after a front of the text or of the image.
     Unwritable,
-    /// Memory is wanting, for the file, the run, its text, the image of a source or out.
+    /// Memory is wanting, for the file, the run, a text, the image of a source or out.
     OutOfMemory,
 }

@@ -1,42 +1,19 @@
 ghost use Rattle.std.specs.Prelude.{◌≡◌, ◌+◌, ◌≤◌, length, OnOk, IfOk, IfErr, IfSome, IsTrue};
 ghost use Rattle.mw_cli.specs.Command.{Run, run_in};
 ghost use Rattle.mw_cli.specs.Headline.{SpellsRun};
-ghost use Rattle.mw_cli.specs.Outside.{reading, writing, IsImage, StopsReading};
+ghost use Rattle.mw_cli.specs.Outside.{reading, writing, StopsReading};
 ghost use Rattle.mw_cli.specs.Answers.{Printed, HasCause};
-ghost use Rattle.mw_cli.specs.Stages.{IsLoadRefusal, IsRunRefusal};
+ghost use Rattle.mw_cli.specs.Stages.{IsRunRefusal};
 
 use crate::command::RunCommand;
 use crate::refusal::Refusal;
-use crate::transfer::{read_file, write_out};
+use crate::transfer::{read_image, write_out};
 use mw_bits::Bytes;
 use mw_board::{RunFault, simulate};
 use mw_io::{Host, Sink};
 use mw_isa::Span;
 use mw_trace::print;
 use std::alloc::Global;
-
-/// The most bytes that an image may have.
-const MOST_BYTES: usize = 16777216;
-
-/// Reads the image of a command.
-fn load<H: Host>(alloc: Global, command: &RunCommand<'_>, host: &mut H) -> Result<Vec<u8>, Refusal>
-    ensures image { IfOk result (λ bytes. IsImage (reading (H.files host.old) (H.is_sound host.old) (H.faults host.old) (H.faults host.new)) (run_in command.now) bytes.items) }
-    ensures fits { IfOk result (λ bytes. length bytes.items ≤ 16777216) }
-    ensures refused { IfErr result (IsLoadRefusal (reading (H.files host.old) (H.is_sound host.old) (H.faults host.old) (H.faults host.new)) (run_in command.now)) }
-    ensures stops { StopsReading (H.files host.old) (H.is_open host.new) (H.rest host.new) 16777216 command.now.image.now }
-    ensures same_files { H.files host.new ≡ H.files host.old }
-    ensures later { H.faults host.old ≤ H.faults host.new }
-    ensures stays_sound { IsTrue (H.is_sound host.old) → IsTrue (H.is_sound host.new) }
-{
-    let bytes = match read_file(alloc, command.image, host, MOST_BYTES) {
-        Ok(bytes) => bytes,
-        Err(refusal) => return Err(refusal),
-    };
-    if bytes.len() > MOST_BYTES {
-        return Err(Refusal::TooLarge);
-    }
-    Ok(bytes)
-}
 
 /// The text of a run of an image.
 fn text_of_run(
@@ -83,7 +60,7 @@ pub fn run<H: Host, S: Sink>(
     ensures faults { S.faults out.old ≤ S.faults out.new }
     ensures wants { S.wants out.old ≤ S.wants out.new }
 {
-    let image = match load(alloc, command, host) {
+    let image = match read_image(alloc, command.image, host) {
         Ok(image) => image,
         Err(refusal) => return Err(refusal),
     };

@@ -4,15 +4,16 @@ ghost use Rattle.mw_cli.specs.Numbers.{number_of};
 /// How the program ends. `number` has the numbers.
 #[derive(Clone, Copy, Debug, PartialEq, Eq)]
 pub enum Status {
-    /// What the words ask for is done: the text of the run, or the image of the source, is written. Err took nothing.
+    /// What the words ask for is done: the text of the run or of the disassembly, or the
+    /// image of the source, is written. Err took nothing.
     Done,
-    /// The words aren't `run IMAGE --cycles N`, `run IMAGE --cycles N --dump A:L` or `asm SOURCE`.
+    /// The words aren't `run IMAGE --cycles N`, `run IMAGE --cycles N --dump A:L`, `asm SOURCE` or `dis IMAGE`.
     Usage,
     /// A call of the host failed, as at a name that isn't among its files.
     ReadFault,
     /// A write to out failed. Out took a front of the text or of the image.
     WriteFault,
-    /// The image is longer than RAM, 16,777,216 bytes.
+    /// The image to run or to disassemble is longer than RAM, 16,777,216 bytes. Out took nothing.
     ImageTooLarge,
     /// The source is refused at a place, or it goes on past 4,194,304 bytes. Out took nothing.
     BadInput,

@@ -14,6 +14,12 @@ const SINGLE: &[u8] = b"\x05\x00\x60\x38";
 /// Three bytes of it: the word 00600005, which isn't built.
 const CUT: &[u8] = b"\x05\x00\x60";
 
+/// The disassembly of `LOOP`.
+const LISTING: &str = "\
+0000000000000000 38600005 addi r3,r0,5
+0000000000000004 48000000 b 0x4
+";
+
 /// The lines between those of the general purpose registers and that of the address.
 const BEFORE: &str = "\
 cr 00000000
@@ -367,7 +373,7 @@ fn a_dump_is_in_its_bounds(rt: HostRuntime) -> Result<(), Fail> {
 struct Refused(&'static str, &'static [u8], Status, &'static str);
 
 #[rattlefmt::skip]
-static REFUSED: [Refused; 30] = [
+static REFUSED: [Refused; 31] = [
     Refused("", LOOP, Status::Usage, "mw: usage\n"),
     Refused("run", LOOP, Status::Usage, "mw: usage\n"),
     Refused("run img", LOOP, Status::Usage, "mw: usage\n"),
@@ -394,6 +400,7 @@ static REFUSED: [Refused; 30] = [
     Refused("asm -img", b"", Status::Usage, "mw: usage\n"),
     Refused("run absent --cycles 3", LOOP, Status::ReadFault, "mw: cannot read absent\n"),
     Refused("asm absent", b"", Status::ReadFault, "mw: cannot read absent\n"),
+    Refused("dis absent", LOOP, Status::ReadFault, "mw: cannot read absent\n"),
     Refused("asm img", b"frob r3\n", Status::BadInput, "mw: img:1:1: bad input\n"),
     Refused("run img --cycles 5", CUT, Status::Unbuilt, "mw: unbuilt at 0000000000000000\n"),
     Refused("run img --cycles 2", SINGLE, Status::Unbuilt, "mw: unbuilt at 0000000000000004\n"),
@@ -449,6 +456,11 @@ fn the_largest_image_is_served(rt: HostRuntime) -> Result<(), Fail> {
         ("run full --cycles 0", Status::Done, ""),
         (
             "run over --cycles 0",
+            Status::ImageTooLarge,
+            "mw: image exceeds 16777216 bytes\n",
+        ),
+        (
+            "dis over",
             Status::ImageTooLarge,
             "mw: image exceeds 16777216 bytes\n",
         ),
@@ -520,24 +532,31 @@ fn each_call_fails_in_turn(rt: HostRuntime) -> Result<(), Fail> {
 }
 
 #[test]
-fn a_source_is_assembled(rt: HostRuntime) -> Result<(), Fail> {
+fn a_file_is_assembled_or_disassembled(rt: HostRuntime) -> Result<(), Fail> {
     let alloc = rt.alloc();
-    for (source, want) in [
-        ("li r3,5\nb .\n", LOOP),
-        ("li r3,5\nb .", LOOP),
-        ("paddi r3,0,-8589934592,1\nb .\n", PREFIXED),
-        ("# nothing\n", b"".as_slice()),
-        ("", b"".as_slice()),
+    let none = b"".as_slice();
+    for (line, file, want) in [
+        ("asm s", b"li r3,5\nb .\n".as_slice(), LOOP),
+        ("asm s", b"li r3,5\nb .".as_slice(), LOOP),
+        (
+            "asm s",
+            b"paddi r3,0,-8589934592,1\nb .\n".as_slice(),
+            PREFIXED,
+        ),
+        ("asm s", b"# nothing\n".as_slice(), none),
+        ("asm s", none, none),
+        ("dis s", LOOP, LISTING.as_bytes()),
+        ("dis s", none, none),
     ] {
         let mut host = SureHost::new(alloc);
-        host.put("s", source.as_bytes())?;
+        host.put("s", file)?;
         let mut out = SureSink::new(alloc);
         let mut err = SureSink::new(alloc);
-        let words = words_of(alloc, "asm s")?;
+        let words = words_of(alloc, line)?;
         let status = mw_main(alloc, words.as_slice(), &mut host, &mut out, &mut err);
-        assert_eq!(rt; status, Status::Done, "{source}");
-        assert_eq!(rt; out.as_slice(), want, "{source}");
-        assert_eq!(rt; err.as_slice(), b"".as_slice(), "{source}");
+        assert_eq!(rt; status, Status::Done, "{line}");
+        assert_eq!(rt; out.as_slice(), want, "{line}");
+        assert_eq!(rt; err.as_slice(), none, "{line}");
     }
     Ok(())
 }
@@ -575,19 +594,21 @@ fn the_longest_source_is_served(rt: HostRuntime) -> Result<(), Fail> {
     Ok(())
 }
 
-/// The same while a source is assembled, or refused.
+/// The same while a source is assembled, or refused, and while an image is disassembled.
 #[test]
-fn each_call_for_a_source_fails_in_turn(rt: HostRuntime) -> Result<(), Fail> {
+fn each_call_for_a_file_fails_in_turn(rt: HostRuntime) -> Result<(), Fail> {
     let alloc = rt.alloc();
     let never = 99;
-    let good = "li r3,5\nb .\n";
+    let good = b"li r3,5\nb .\n".as_slice();
+    let bad = b"\nli @".as_slice();
     let unread = "mw: cannot read s\n";
-    for (source, of_host, of_out, of_err, want, said) in [
-        (good, 0, never, never, Status::ReadFault, unread),
-        (good, 1, never, never, Status::ReadFault, unread),
-        (good, 2, never, never, Status::ReadFault, unread),
-        (good, 3, 1, never, Status::Done, ""),
+    for (line, file, of_host, of_out, of_err, want, said) in [
+        ("asm s", good, 0, never, never, Status::ReadFault, unread),
+        ("asm s", good, 1, never, never, Status::ReadFault, unread),
+        ("asm s", good, 2, never, never, Status::ReadFault, unread),
+        ("asm s", good, 3, 1, never, Status::Done, ""),
         (
+            "asm s",
             good,
             never,
             0,
@@ -595,30 +616,41 @@ fn each_call_for_a_source_fails_in_turn(rt: HostRuntime) -> Result<(), Fail> {
             Status::WriteFault,
             "mw: cannot write\n",
         ),
-        ("\nli @", never, never, 0, Status::BadInput, ""),
-        ("\nli @", never, never, 1, Status::BadInput, "mw: "),
-        ("\nli @", never, never, 2, Status::BadInput, "mw: s"),
-        ("\nli @", never, never, 3, Status::BadInput, "mw: s:"),
-        ("\nli @", never, never, 4, Status::BadInput, "mw: s:2"),
-        ("\nli @", never, never, 5, Status::BadInput, "mw: s:2:"),
-        ("\nli @", never, never, 6, Status::BadInput, "mw: s:2:4"),
+        ("asm s", bad, never, never, 0, Status::BadInput, ""),
+        ("asm s", bad, never, never, 1, Status::BadInput, "mw: "),
+        ("asm s", bad, never, never, 2, Status::BadInput, "mw: s"),
+        ("asm s", bad, never, never, 3, Status::BadInput, "mw: s:"),
+        ("asm s", bad, never, never, 4, Status::BadInput, "mw: s:2"),
+        ("asm s", bad, never, never, 5, Status::BadInput, "mw: s:2:"),
+        ("asm s", bad, never, never, 6, Status::BadInput, "mw: s:2:4"),
         (
-            "\nli @",
+            "asm s",
+            bad,
             never,
             0,
             7,
             Status::BadInput,
             "mw: s:2:4: bad input\n",
         ),
+        ("dis s", LOOP, 0, never, never, Status::ReadFault, unread),
+        (
+            "dis s",
+            LOOP,
+            never,
+            0,
+            never,
+            Status::WriteFault,
+            "mw: cannot write\n",
+        ),
     ] {
         let mut host = MemHost::new(alloc);
-        host.put("s", source.as_bytes())?;
+        host.put("s", file)?;
         host.fail(of_host)?;
         let mut out = MemSink::new(alloc);
         out.fail(of_out)?;
         let mut err = MemSink::new(alloc);
         err.fail(of_err)?;
-        let words = words_of(alloc, "asm s")?;
+        let words = words_of(alloc, line)?;
         let status = mw_main(alloc, words.as_slice(), &mut host, &mut out, &mut err);
         assert_eq!(rt; status, want, "{of_host} {of_out} {of_err}");
         let taken = if want == Status::Done {

@@ -1,10 +1,13 @@
-ghost use Rattle.std.specs.Prelude.{◌≡◌, ◌+◌, ◌^◌, ◌<◌, ◌≤◌, OnOk, IfOk, IfErr, IsTrue, vec_len};
-ghost use Rattle.mw_cli.specs.Outside.{reading, writing, StopsReading, Took};
-ghost use Rattle.mw_cli.specs.Stages.{IsFront, IsReadRefusal, IsWriteRefusal};
+ghost use Rattle.std.specs.Prelude.{◌≡◌, ◌+◌, ◌^◌, ◌<◌, ◌≤◌, length, OnOk, IfOk, IfErr, IsTrue, vec_len};
+ghost use Rattle.mw_cli.specs.Outside.{reading, writing, IsImage, StopsReading, Took};
+ghost use Rattle.mw_cli.specs.Stages.{IsFront, IsReadRefusal, IsLoadRefusal, IsWriteRefusal};
 
 use crate::refusal::Refusal;
 use mw_io::{Host, ReadFault, Sink, SinkFault, read_up_to, write_all};
 use std::alloc::Global;
+
+/// The most bytes that an image may have.
+const MOST_IMAGE_BYTES: usize = 16777216;
 
 /// Reads the file of a name to its end, or to one byte past a limit where it goes on so long.
 pub fn read_file<H: Host>(
@@ -30,6 +33,26 @@ pub fn read_file<H: Host>(
         Err(ReadFault::Failed) => Err(Refusal::Unreadable),
         Err(ReadFault::NoMemory) => Err(Refusal::OutOfMemory),
     }
+}
+
+/// Reads the image of a name, if it isn't longer than RAM.
+pub fn read_image<H: Host>(alloc: Global, name: &str, host: &mut H) -> Result<Vec<u8>, Refusal>
+    ensures image { IfOk result (λ bytes. IsImage (reading (H.files host.old) (H.is_sound host.old) (H.faults host.old) (H.faults host.new)) name.now bytes.items) }
+    ensures fits { IfOk result (λ bytes. length bytes.items ≤ 16777216) }
+    ensures refused { IfErr result (IsLoadRefusal (reading (H.files host.old) (H.is_sound host.old) (H.faults host.old) (H.faults host.new)) name.now) }
+    ensures stops { StopsReading (H.files host.old) (H.is_open host.new) (H.rest host.new) 16777216 name.now }
+    ensures same_files { H.files host.new ≡ H.files host.old }
+    ensures later { H.faults host.old ≤ H.faults host.new }
+    ensures stays_sound { IsTrue (H.is_sound host.old) → IsTrue (H.is_sound host.new) }
+{
+    let bytes = match read_file(alloc, name, host, MOST_IMAGE_BYTES) {
+        Ok(bytes) => bytes,
+        Err(refusal) => return Err(refusal),
+    };
+    if bytes.len() > MOST_IMAGE_BYTES {
+        return Err(Refusal::TooLarge);
+    }
+    Ok(bytes)
 }
 
 /// Writes all the bytes.
