@@ -22,7 +22,7 @@ pub record Writing : Type 0 where
 abbrev pub IsImage : Reading → List ℕ → List ℕ → Type 0
 IsImage host name image = IfSome host.files (λ told. image ≡ content_of told name)
 
--- and so with a source
+-- the source is the content of the file of this name, where the files are told
 abbrev pub IsSource : Reading → List ℕ → List ℕ → Type 0
 IsSource host name source = IfSome host.files (λ told. source ≡ content_of told name)
 
