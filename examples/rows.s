@@ -1,0 +1,103 @@
+# Each instruction that runs today, once: sums, a branch, loads and stores of every width, cache, prefixed rows.
+        addi   r3, r0, 0x400    # r3: where the bytes stand
+        addis  r4, r0, -2       # r4 = fffffffffffe0000
+        ori    r4, r4, 0x8081   # r4 = fffffffffffe8081
+        add    r5, r3, r4
+        li     r6, 8            # r6: an index
+        li     r7, 0x600        # r7: a pointer that is updated
+        b      stores
+        .org   64
+
+# Stores: by displacement and by index, with update (u), with bytes reversed (brx), cache-inhibited (cix).
+stores: stb    r4, 0(r3)
+        sth    r4, 2(r3)
+        stw    r4, 4(r3)
+        std    r4, 8(r3)
+        stbu   r4, 1(r7)
+        sthu   r4, 1(r7)
+        stwu   r4, 2(r7)
+        stdu   r4, 4(r7)        # r7 = 608
+        stbx   r4, r3, r6
+        sthx   r4, r3, r6
+        stwx   r4, r3, r6
+        stdx   r4, r3, r6
+        stbux  r4, r7, r6
+        sthux  r4, r7, r6
+        stwux  r4, r7, r6
+        stdux  r4, r7, r6       # r7 = 628
+        sthbrx r4, r7, r6
+        stwbrx r4, r7, r6
+        stdbrx r4, r7, r6
+        stbcix r4, r3, r6
+        sthcix r4, r3, r6
+        stwcix r4, r3, r6
+        stdcix r4, r3, r6
+
+# Loads: z extends with zeros, a with the sign.
+        lbz    r8, 0(r3)        # 81
+        lhz    r8, 2(r3)        # 8081
+        lha    r8, 2(r3)        # ffffffffffff8081
+        lwz    r8, 4(r3)        # fffe8081
+        lwa    r8, 4(r3)        # fffffffffffe8081
+        ld     r8, 8(r3)        # fffffffffffe8081
+        li     r7, 0x400
+        lbzu   r9, 0(r7)
+        lhzu   r9, 2(r7)
+        lhau   r9, 2(r7)
+        lwzu   r9, 0(r7)
+        ldu    r9, 4(r7)        # r7 = 408
+        li     r6, 0
+        lbzx   r10, r7, r6
+        lhzx   r10, r7, r6
+        lhax   r10, r7, r6
+        lwzx   r10, r7, r6
+        lwax   r10, r7, r6
+        ldx    r10, r7, r6
+        lbzux  r11, r7, r6
+        lhzux  r11, r7, r6
+        lhaux  r11, r7, r6
+        lwzux  r11, r7, r6
+        lwaux  r11, r7, r6
+        ldux   r11, r7, r6
+        lhbrx  r12, r7, r6      # 8180
+        lwbrx  r12, r7, r6      # 8180feff
+        ldbrx  r12, r7, r6      # 8180feffffffffff
+        lbzcix r13, r7, r6
+        lhzcix r13, r7, r6
+        lwzcix r13, r7, r6
+        ldcix  r13, r7, r6
+
+# A reservation of each width, and the store that ends it.
+        lbarx  r14, r0, r7
+        stbcx. r14, r0, r7
+        lharx  r14, r0, r7
+        sthcx. r14, r0, r7
+        lwarx  r14, r0, r7
+        stwcx. r14, r0, r7
+        ldarx  r14, r0, r7
+        stdcx. r14, r0, r7      # CR field 0 is 2: it stored
+
+# Blocks of 64 bytes: hints, cleaning, and zeros.
+        dcbt   r0, r7
+        dcbtst r0, r7
+        dcbst  r0, r7
+        dcbf   r0, r7
+        icbi   r0, r7
+        dcbz   r0, r7           # the block from 400 on becomes zeros
+
+# Prefixed rows, with a displacement of 34 bits; none of them may cross a block.
+        b      wide
+        .org   512
+wide:   paddi  r15, r0, 0x10400, 0
+        pstb   r4, 0x10400(r0), 0
+        psth   r4, 2(r15), 0
+        pstw   r4, 4(r15), 0
+        pstd   r4, 8(r15), 0
+        plbz   r16, 0(r15), 0
+        plhz   r16, 2(r15), 0
+        plha   r17, 2(r15), 0   # ffffffffffff8081
+        plwz   r18, 4(r15), 0   # fffe8081
+        plwa   r19, 4(r15), 0   # fffffffffffe8081
+        pld    r20, 8(r15), 0   # fffffffffffe8081
+        pnop
+here:   b      here
