@@ -1,7 +1,7 @@
 -- The operands of an instruction as they are printed, and the lines of an image.
 use Rattle.std.proofs.Common.{◌≡◌, ℕ, zero, suc, ◌+◌, ◌-◌, ◌*◌, ◌/◌, ◌%◌, ◌<◌, ◌≤◌, ◌==◌, Bool, true, false, not, cond, if◌then◌else◌, List, [], ◌∷◌, ◌++◌, Some, None, length, drop, get_or, slice_get, codes, decimal, refl, sym, ap, ◌∙◌, append_assoc, arith}
 use Rattle.std.proofs.lemmas.List.{append-nil, drop_more, drop_all}
-use Rattle.std.specs.Prelude.{ℤ, pos, unsigned_abs, int_lt}
+use Rattle.std.specs.Prelude.{ℤ, pos, unsigned_abs, int_lt, flat_map, is_some}
 use Rattle.std.specs.Fmt.{digits, digits_onto, digit_glyph}
 use Rattle.std.proofs.Math.ListN.{length-append}
 use Rattle.mw_asm.specs.declared.item.Kind.{Kind}
@@ -9,7 +9,7 @@ use Rattle.mw_asm.specs.declared.item.Kind.TheVariants.{Register, Value, Target,
 use Rattle.mw_asm.specs.declared.item.Item.{Item}
 use Rattle.mw_asm.specs.declared.item.Item.TheVariants.{Operand, Comma, Open, Close}
 use Rattle.mw_asm.proofs.ReadingLemmas.{eqb-other}
-use Rattle.mw_asm.specs.Disassembly.{signed_decimal, operand_text, operands_text, behind_name, printed_at, lines_from, word_count, disassembly}
+use Rattle.mw_asm.specs.Disassembly.{signed_decimal, operand_text, operands_text, behind_name, entry_text, entry_at, entries_from, word_count, disassembly}
 
 -- both branches have a byte
 cond-some : (b : Bool) (xs ys : List ℕ) → 0 < length xs → 0 < length ys → 0 < length (cond b xs ys)
@@ -125,6 +125,10 @@ piece-more text next piece left rest whole added is same =
 pub piece-none : (text left whole : List ℕ) → left ≡ [] → text ++ left ≡ whole → text ≡ whole
 piece-none text left whole none same = sym (append-nil text) ∙ ap (λ l. text ++ l) (sym none) ∙ same
 
+-- the lines of entries
+abbrev pub lines_from : ℕ → Bool → List ℕ → ℕ → List ℕ
+lines_from left suffix image at = flat_map entry_text (entries_from left suffix image at)
+
 -- the lines of all words
 pub lines-all : (image : List ℕ) → lines_from (word_count image - 0) false image (4 * 0) ≡ disassembly image
 unfolding disassembly
@@ -134,23 +138,23 @@ lines-all image =
 
 -- a suffix has no line of its own
 pub lines-suffix : (count place : ℕ) (image : List ℕ) → place < count → lines_from (count - place) true image (4 * place) ≡ lines_from (count - (place + 1)) false image (4 * (place + 1))
-unfolding lines_from
+unfolding entries_from
 lines-suffix count place image lt =
     let left : count - place ≡ suc (count - (place + 1)) = omega arith in
     let at : 4 * place + 4 ≡ 4 * (place + 1) = omega arith in
     rw left (ap (lines_from (count - (place + 1)) false image) at)
 
 -- the line of a word, in front of the others
-pub lines-word : (count place : ℕ) (image : List ℕ) → place < count → lines_from (count - place) false image (4 * place) ≡ (printed_at image (4 * place)).text ++ lines_from (count - (place + 1)) (printed_at image (4 * place)).pair image (4 * (place + 1))
-unfolding lines_from
+pub lines-word : (count place : ℕ) (image : List ℕ) → place < count → lines_from (count - place) false image (4 * place) ≡ entry_text (entry_at image (4 * place)) ++ lines_from (count - (place + 1)) (is_some (entry_at image (4 * place)).suffix) image (4 * (place + 1))
+unfolding entries_from
 lines-word count place image lt =
     let left : count - place ≡ suc (count - (place + 1)) = omega arith in
     let at : 4 * place + 4 ≡ 4 * (place + 1) = omega arith in
-    rw left (ap (λ a. (printed_at image (4 * place)).text ++ lines_from (count - (place + 1)) (printed_at image (4 * place)).pair image a) at)
+    rw left (ap (λ a. entry_text (entry_at image (4 * place)) ++ lines_from (count - (place + 1)) (is_some (entry_at image (4 * place)).suffix) image a) at)
 
 -- no line is left
 pub lines-none : (count place : ℕ) (suffix : Bool) (image : List ℕ) (at : ℕ) → count ≤ place → lines_from (count - place) suffix image at ≡ []
-unfolding lines_from
+unfolding entries_from
 lines-none count place suffix image at end =
     let left : count - place ≡ 0 = omega arith in
     rw left refl

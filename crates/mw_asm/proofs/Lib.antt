@@ -17,3 +17,16 @@ pub mod AssembledLemmas
 pub mod SourceLemmas
 mod DisassemblyDigitLemmas
 mod DisassemblyLemmas
+pub mod PrintedForms
+mod DigitTextLemmas
+pub mod TokenTextLemmas
+pub mod OperandWorthLemmas
+pub mod OperandTextLemmas
+pub mod OperandReadLemmas
+pub mod NameLemmas
+pub mod GivenLinesLemmas
+pub mod SourceTextLemmas
+pub mod AgainLemmas
+pub mod EntryCodeLemmas
+pub mod EntryLemmas
+pub mod WholeLemmas

@@ -257,7 +257,7 @@ words-length Mls code = refl
 words-length Eight code = refl
 words-length NopPrefix code = refl
 
-encoded-length : (insn : Insn) (row : TableRow) (layout : Layout) → slice_get table insn.row ≡ Some row → slice_get layouts insn.row ≡ Some layout → length (code_bytes (encode_of insn)) ≡ code_size insn.row
+pub encoded-length : (insn : Insn) (row : TableRow) (layout : Layout) → slice_get table insn.row ≡ Some row → slice_get layouts insn.row ≡ Some layout → length (code_bytes (encode_of insn)) ≡ code_size insn.row
 unfolding encode_of
 encoded-length insn row layout there laid =
     ap (λ o. length (code_bytes (encoded_by insn o (slice_get layouts insn.row)))) there

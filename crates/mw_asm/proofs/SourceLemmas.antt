@@ -6,9 +6,9 @@ use Rattle.mw_asm.specs.declared.fault.Refusal.{Refusal}
 use Rattle.mw_asm.specs.declared.fault.AsmFault.{AsmFault}
 use Rattle.mw_asm.specs.declared.fault.AsmFault.TheVariants.{Bad, NoMemory}
 use Rattle.mw_asm.specs.Values.{Placed}
-use Rattle.mw_asm.specs.Assembled.{Pass, lines_of, first_line, first_pass, second_line, second_pass, both_passes, and_then, in_front, placed_at, place_past, source_limit, assembled}
+use Rattle.mw_asm.specs.Assembled.{Pass, lines_of, first_line, first_pass, second_line, second_pass, both_passes, and_then, in_front, place_past, source_limit, assembled}
 use Rattle.mw_asm.specs.Passes.{start, IfBad}
-use Rattle.mw_asm.specs.Source.{or_before, placed, labels_of, bytes_at, bytes_from, meaning_of, refused_or, first_refusal, value_refusal, or_else, refusal_of, unless_refused}
+use Rattle.mw_asm.specs.Source.{or_before, placed, labels_of, bytes_from, meaning_of, refused_or, first_refusal, value_refusal, or_else, refusal_of, unless_refused}
 
 -- a line of the first pass, by what it gives
 first_step : (number : ℕ) (pass : Pass) (lines : List (List ℕ)) (said : Result Pass Refusal) → ((next : Pass) → first_pass (number + 1) next lines ≡ unless_refused (first_refusal (number + 1) next lines) (placed next lines).known) →

@@ -1,5 +1,5 @@
 -- The disassembly of an image: a line for each instruction, with its address, its word or its two words, and its statement as the assembler reads it; and a `.long` line for each word that is none.
-use Rattle.std.specs.Prelude.{ℕ, zero, suc, ◌+◌, ◌*◌, ◌/◌, ◌%◌, ◌^◌, ◌==◌, nat_lt, Bool, true, false, not, ◌&&◌, if◌then◌else◌, List, [], ◌∷◌, ◌++◌, ℤ, pos, ◌+ℤ◌, int_lt, unsigned_abs, Option, Some, None, is_some, length, slice_get, slice_index_or, codes, decimal}
+use Rattle.std.specs.Prelude.{ℕ, zero, suc, ◌+◌, ◌*◌, ◌/◌, ◌%◌, ◌^◌, ◌==◌, nat_lt, Bool, true, false, not, ◌&&◌, if◌then◌else◌, List, [], ◌∷◌, ◌++◌, ℤ, pos, ◌+ℤ◌, int_lt, unsigned_abs, Option, Some, None, is_some, length, slice_get, slice_index_or, codes, decimal, flat_map}
 use Rattle.std.specs.Option.{option_map_or}
 use Rattle.std.specs.Int.{w64, cast_unsigned}
 use Rattle.mw_tables.specs.Row.{TableRow}
@@ -92,41 +92,64 @@ words_text word (Some suffix) = hex 8 word ++ 32 ∷ hex 8 suffix
 abbrev pub line_text : ℕ → ℕ → Option ℕ → List ℕ → List ℕ
 line_text at word suffix statement = hex 16 at ++ 32 ∷ words_text word suffix ++ 32 ∷ statement ++ 10 ∷ []
 
--- the line of a word that is no instruction, without its suffix
-abbrev pub long_text : ℕ → ℕ → List ℕ
-long_text at word = line_text at word None (codes ".long 0x" ++ hex 8 word)
+-- an entry: a word at an address, the suffix that belongs to it, and the instruction that they are
+pub record Entry : Type 0 where
+  pub at : ℕ
+  pub word : ℕ
+  pub suffix : Option ℕ
+  pub insn : Option Insn
 
--- a line, and whether it has two words
-pub record Printed : Type 0 where
-  pub text : List ℕ
-  pub pair : Bool
+-- the statement of a word that is no instruction
+abbrev pub long_statement : ℕ → List ℕ
+long_statement word = codes ".long 0x" ++ hex 8 word
 
--- the line of a word, with its suffix, by what they are
-abbrev pub printed_by : ℕ → ℕ → Option ℕ → Decoded → Printed
-printed_by at word suffix (Is insn) = record { text = line_text at word suffix (statement_text insn at); pair = is_some suffix }
-printed_by at word suffix (Unavailable facility) = record { text = long_text at word; pair = false }
-printed_by at word suffix (Alignment ra rb disp) = record { text = long_text at word; pair = false }
-printed_by at word suffix Illegal = record { text = long_text at word; pair = false }
+-- the statement of an instruction at an address, or of a word that is none
+abbrev pub statement_by : ℕ → ℕ → Option Insn → List ℕ
+statement_by at word (Some insn) = statement_text insn at
+statement_by at word None = long_statement word
+
+-- the statement of an entry
+abbrev pub statement_of : Entry → List ℕ
+statement_of entry = statement_by entry.at entry.word entry.insn
+
+-- the line of an entry
+abbrev pub entry_text : Entry → List ℕ
+entry_text entry = line_text entry.at entry.word entry.suffix (statement_of entry)
+
+-- a word that is no instruction stands alone
+abbrev pub long_entry : ℕ → ℕ → Entry
+long_entry at word = record { at = at; word = word; suffix = None; insn = None }
+
+-- the entry of a word with its suffix, by what they are
+abbrev pub entry_by : ℕ → ℕ → Option ℕ → Decoded → Entry
+entry_by at word suffix (Is insn) = record { at = at; word = word; suffix = suffix; insn = Some insn }
+entry_by at word suffix (Unavailable facility) = long_entry at word
+entry_by at word suffix (Alignment ra rb disp) = long_entry at word
+entry_by at word suffix Illegal = long_entry at word
 
 -- a prefix without a suffix is no instruction
-abbrev pub printed_with : ℕ → ℕ → Option ℕ → Printed
-printed_with at word None = if is_prefix word then record { text = long_text at word; pair = false } else printed_by at word None (decode_of word None)
-printed_with at word (Some suffix) = printed_by at word (Some suffix) (decode_of word (Some suffix))
+abbrev pub entry_with : ℕ → ℕ → Option ℕ → Entry
+entry_with at word None = if is_prefix word then long_entry at word else entry_by at word None (decode_of word None)
+entry_with at word (Some suffix) = entry_by at word (Some suffix) (decode_of word (Some suffix))
 
--- the line at an address
-unfoldable pub printed_at : List ℕ → ℕ → Printed
-printed_at image at = printed_with at (image_word image at) (suffix_in image at)
+-- the entry at an address
+unfoldable pub entry_at : List ℕ → ℕ → Entry
+entry_at image at = entry_with at (image_word image at) (suffix_in image at)
 
--- the lines of so many words from an address on; the first is left out where it is the suffix of the one before
-unfoldable pub lines_from : ℕ → Bool → List ℕ → ℕ → List ℕ
-lines_from zero suffix image at = []
-lines_from (suc left) true image at = lines_from left false image (at + 4)
-lines_from (suc left) false image at = (printed_at image at).text ++ lines_from left (printed_at image at).pair image (at + 4)
+-- the entries of so many words from an address on; the first word has none where it is the suffix of the one before
+unfoldable pub entries_from : ℕ → Bool → List ℕ → ℕ → List Entry
+entries_from zero suffix image at = []
+entries_from (suc left) true image at = entries_from left false image (at + 4)
+entries_from (suc left) false image at = entry_at image at ∷ entries_from left (is_some (entry_at image at).suffix) image (at + 4)
 
 -- how many words an image has, the last one filled with zeros
 abbrev pub word_count : List ℕ → ℕ
 word_count image = (length image + 3) / 4
 
+-- the entries of an image
+abbrev pub entries_of : List ℕ → List Entry
+entries_of image = entries_from (word_count image) false image 0
+
 -- the disassembly of an image
 unfoldable pub disassembly : List ℕ → List ℕ
-disassembly image = lines_from (word_count image) false image 0
+disassembly image = flat_map entry_text (entries_of image)

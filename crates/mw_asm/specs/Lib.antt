@@ -13,3 +13,4 @@ pub mod Assembled
 pub mod Passes
 pub mod Source
 pub mod Disassembly
+pub mod Again

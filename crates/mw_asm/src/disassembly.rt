@@ -1,10 +1,16 @@
-ghost use Rattle.std.specs.Prelude.{◌≡◌, ℕ, ◌<◌, ◌^◌, Bool, false, if◌then◌else◌, pos, ◌+ℤ◌, [], ◌∷◌, ◌++◌, length, is_some, IfOk, IfSome, IsTrue, OnOk};
+ghost use Rattle.std.specs.Prelude.{◌≡◌, ℕ, ◌+◌, ◌<◌, ◌≤◌, ◌^◌, Bool, false, if◌then◌else◌, pos, ◌+ℤ◌, [], ◌∷◌, ◌++◌, length, is_some, All, Ok, IfOk, IfSome, IsTrue, OnOk};
 ghost use Rattle.std.specs.Int.{w64, cast_unsigned};
-ghost use Rattle.mw_decode.specs.Decode.{decode_of, is_prefix};
+ghost use Rattle.mw_decode.specs.declared.insn.Code.{Code};
+ghost use Rattle.mw_decode.specs.declared.insn.Decoded.TheVariants.{Insn as Is};
+ghost use Rattle.mw_decode.specs.Decode.{decode_of, is_prefix, IsInsn};
+ghost use Rattle.mw_decode.specs.Encode.{encode_of, HasNoReserved};
 ghost use Rattle.mw_asm.specs.Items.{items_of};
 ghost use Rattle.mw_asm.specs.Lines.{shape_at};
 ghost use Rattle.mw_asm.specs.Mnemonics.{ending, spelled};
-ghost use Rattle.mw_asm.specs.Disassembly.{operand_text, operands_text, behind_name, name_at, statement_text, image_byte, image_word, suffix_in, words_text, line_text, long_text, printed_by, printed_with, printed_at, disassembly};
+ghost use Rattle.mw_asm.specs.Values.{code_bytes};
+ghost use Rattle.mw_asm.specs.Assembled.{assembled, code_size, image_limit, source_limit};
+ghost use Rattle.mw_asm.specs.Again.{code_of, statements_of, whole_words, AssemblesAgain, AssemblesTo, IsClear, IsExact};
+ghost use Rattle.mw_asm.specs.Disassembly.{operand_text, operands_text, behind_name, name_at, statement_text, image_byte, image_word, suffix_in, words_text, line_text, entry_text, long_entry, entry_by, entry_with, entry_at, entries_of, disassembly};
 
 use crate::digits::{add_decimal, add_hex, add_short_hex};
 use crate::item::{Item, Kind, items_of_shape};
@@ -198,7 +204,7 @@ fn add_insn(
 
 /// Appends the line of a word at an address that is no instruction; it has one word.
 fn add_long(text: &mut Bytes, at: u64, word: u32) -> Result<bool, NoMemory>
-    ensures line { OnOk result (text.new ≡ text.old ++ long_text at word) }
+    ensures line { OnOk result (text.new ≡ text.old ++ entry_text (long_entry at word)) }
     ensures pair { IfOk result (λ pair. pair ≡ false) }
 {
     add_hex(text, 16, at)?;
@@ -215,9 +221,9 @@ fn add_decoded(text: &mut Bytes, at: u64, word: u32, suffix: Option<u32>) -> Res
     requires low { at < 2 ^ 63 }
     requires whole { is_some suffix ≡ is_prefix word }
     ensures line { OnOk result
-        (text.new ≡ text.old ++ (printed_by at word suffix (decode_of word suffix)).text) }
+        (text.new ≡ text.old ++ entry_text (entry_by at word suffix (decode_of word suffix))) }
     ensures pair { IfOk result
-        (λ pair. pair ≡ (printed_by at word suffix (decode_of word suffix)).pair) }
+        (λ pair. pair ≡ is_some (entry_by at word suffix (decode_of word suffix)).suffix) }
 {
     match decode(word, suffix) {
         Decoded::Insn(insn) => add_insn(text, at, word, suffix, &insn),
@@ -232,8 +238,8 @@ fn add_decoded(text: &mut Bytes, at: u64, word: u32, suffix: Option<u32>) -> Res
 fn add_word(text: &mut Bytes, at: u64, word: u32, suffix: Option<u32>) -> Result<bool, NoMemory>
     requires low { at < 2 ^ 63 }
     requires prefix { IfSome suffix (λ _. IsTrue (is_prefix word)) }
-    ensures line { OnOk result (text.new ≡ text.old ++ (printed_with at word suffix).text) }
-    ensures pair { IfOk result (λ pair. pair ≡ (printed_with at word suffix).pair) }
+    ensures line { OnOk result (text.new ≡ text.old ++ entry_text (entry_with at word suffix)) }
+    ensures pair { IfOk result (λ pair. pair ≡ is_some (entry_with at word suffix).suffix) }
 {
     match suffix {
         Some(suffix) => add_decoded(text, at, word, Some(suffix)),
@@ -284,20 +290,17 @@ fn suffix_at(image: &[u8], at: usize) -> Option<u32>
 }
 
 /// Appends the line at an address of an image, and says whether it has two words.
-#[tactic(auto, unfolding(crate::specs::Disassembly::printed_at))]
+#[tactic(auto, unfolding(crate::specs::Disassembly::entry_at))]
 fn add_line(text: &mut Bytes, image: &[u8], at: usize) -> Result<bool, NoMemory>
     requires { at < length image.now }
-    ensures line { OnOk result (text.new ≡ text.old ++ (printed_at image.now at).text) }
-    ensures pair { IfOk result (λ pair. pair ≡ (printed_at image.now at).pair) }
+    ensures line { OnOk result (text.new ≡ text.old ++ entry_text (entry_at image.now at)) }
+    ensures pair { IfOk result (λ pair. pair ≡ is_some (entry_at image.now at).suffix) }
 {
     add_word(text, at as u64, word_at(image, at), suffix_at(image, at))
 }
 
-/// The disassembly of an image from address 0 on, in bytes: a line for each word or pair, with its address,
-/// its words and its statement as the assembler reads it. A word that is no instruction, and a prefix
-/// whose pair is none or that has no suffix in the image and in its block of 64 bytes, has a `.long` line
-/// with that one word. The last word is filled with zeros. The only error is want of memory.
-pub fn disassemble(alloc: Global, image: &[u8]) -> Result<Bytes, NoMemory>
+/// The lines of an image: one for each word or pair.
+fn print_lines(alloc: Global, image: &[u8]) -> Result<Bytes, NoMemory>
     ensures { IfOk result (λ text. text ≡ disassembly image.now) }
 {
     let mut text = Bytes::new(alloc);
@@ -312,62 +315,38 @@ pub fn disassemble(alloc: Global, image: &[u8]) -> Result<Bytes, NoMemory>
     Ok(text)
 }
 
-#[cfg(test)]
-mod tests {
-    use super::*;
-    use std::test::Fail;
+/// The disassembly of an image from address 0 on, in bytes: a line for each word or pair, with its address,
+/// its words and its statement as the assembler reads it. A word that is no instruction, and a prefix
+/// whose pair is none or that has no suffix in the image and in its block of 64 bytes, has a `.long` line
+/// with that one word. The last word is filled with zeros. The only error is want of memory.
+///
+/// Each statement of an image of at most 16,777,216 bytes, assembled behind `.org` with its address, gives
+/// its words again but for reserved bits, which it leaves 0; and so do all of them in one source, as far as
+/// that has at most 4 MiB.
+pub fn disassemble(alloc: Global, image: &[u8]) -> Result<Bytes, NoMemory>
+    ensures text { IfOk result (λ text. text ≡ disassembly image.now) }
+    ensures again { length image.now ≤ image_limit → All AssemblesAgain (entries_of image.now) }
+    ensures source { length image.now ≤ image_limit → length (statements_of image.now) ≤ source_limit →
+        assembled (statements_of image.now) ≡ Ok (code_of image.now) }
+    ensures exact { All IsExact (entries_of image.now) }
+    ensures whole { All IsClear (entries_of image.now) → code_of image.now ≡ whole_words image.now }
+{
+    print_lines(alloc, image)
+}
 
-    /// An image and its disassembly.
-    struct Case(&'static [u8], &'static str);
-
-    #[rattlefmt::skip]
-    static CASES: [Case; 22] = [
-        Case(b"", ""),
-        Case(b"\x05\0\x60", "0000000000000000 00600005 .long 0x00600005\n"),
-        Case(b"\x05\0\x60\x38\0\0\0\x48", "0000000000000000 38600005 addi r3,r0,5\n0000000000000004 48000000 b 0x4\n"),
-        Case(b"\0\0\x12\x06\0\0\x60\x38\0\0\0\x04\x10\0\x80\xe4", "0000000000000000 06120000 38600000 paddi r3,r0,-8589934592,1\n0000000000000008 04000000 e4800010 pld r4,16(r0),0\n"),
-        Case(b"\0\0\x12\x06\0\0\0\x48", "0000000000000000 06120000 .long 0x06120000\n0000000000000004 48000000 b 0x4\n"),
-        Case(b"\0\0\0\x07", "0000000000000000 07000000 .long 0x07000000\n"),
-        Case(b"\0\0\0\x07\0\0\0\x07\0\0\0\x07", "0000000000000000 07000000 07000000 pnop\n0000000000000008 07000000 .long 0x07000000\n"),
-        Case(b"\0\0\0\x07\x05", "0000000000000000 07000000 00000005 pnop\n"),
-        Case(b"\0\0\0\x07\x05\0\x60", "0000000000000000 07000000 00600005 pnop\n"),
-        Case(b"\x15\x2a\x64\x7c\x14\x2e\x64\x7c", "0000000000000000 7c642a15 add. r3,r4,r5\n0000000000000004 7c642e14 addo r3,r4,r5\n"),
-        Case(b"\x15\x2e\x64\x7c\x2d\x29\x64\x7c", "0000000000000000 7c642e15 addo. r3,r4,r5\n0000000000000004 7c64292d stwcx. r3,r4,r5\n"),
-        Case(b"\x03\x01\0\x48\xf8\xff\xff\x4b", "0000000000000000 48000103 bla 0x100\n0000000000000004 4bfffff8 b 0xfffffffffffffffc\n"),
-        Case(b"\xfc\xff\xff\x4b\xfd\xff\xff\x4b", "0000000000000000 4bfffffc b 0xfffffffffffffffc\n0000000000000004 4bfffffd bl 0x0\n"),
-        Case(b"\x05\0\x9f\x42\xfa\xff\x82\x41", "0000000000000000 429f0005 bcl 20,31,0x4\n0000000000000004 4182fffa bca 12,2,0xfffffffffffffff8\n"),
-        Case(b"\xf8\xff\x64\x80\x02\0\0\x44", "0000000000000000 8064fff8 lwz r3,-8(r4)\n0000000000000004 44000002 sc\n"),
-        Case(b"\x64\x22\x6b\x7c\xac\x04\x40\x7c", "0000000000000000 7c6b2264 tlbie r4,r3,2,1,1\n0000000000000004 7c4004ac sync 2\n"),
-        Case(b"\xa6\x03\x7a\x7c\x02\x1a\x22\x4c", "0000000000000000 7c7a03a6 mtspr 26,r3\n0000000000000004 4c221a02 crand 1,2,3\n"),
-        Case(b"\xff\xff\x23\x2c\0\0\0\x60", "0000000000000000 2c23ffff cmpi 0,1,r3,-1\n0000000000000004 60000000 ori r0,r0,0\n"),
-        Case(b"\x08\0\x23\xc8\xce\x20\x23\x7c", "0000000000000000 c8230008 .long 0xc8230008\n0000000000000004 7c2320ce .long 0x7c2320ce\n"),
-        Case(b"\0\0\0\x06\x08\0\x23\xc8", "0000000000000000 06000000 .long 0x06000000\n0000000000000004 c8230008 .long 0xc8230008\n"),
-        Case(b"\x02\0\x23\xe4\0\0\x64\xb8", "0000000000000000 e4230002 .long 0xe4230002\n0000000000000004 b8640000 .long 0xb8640000\n"),
-        Case(b"\x2a\x2c\x64\x7c\x08\0\x63\x84", "0000000000000000 7c642c2a .long 0x7c642c2a\n0000000000000004 84630008 .long 0x84630008\n"),
-    ];
-
-    #[test]
-    fn images_have_their_lines(rt: HostRuntime) -> Result<(), Fail> {
-        for Case(image, text) in &CASES {
-            let printed = disassemble(rt.alloc(), image)?;
-            assert!(rt; printed.as_slice() == text.as_bytes(), "{text}");
-        }
-        Ok(())
-    }
-
-    /// A block's last word, in front of a word that would be its suffix.
-    static BLOCK_END: [u8; 68] = [
-        0, 0, 0, 0x60, 0, 0, 0, 0x60, 0, 0, 0, 0x60, 0, 0, 0, 0x60, 0, 0, 0, 0x60, 0, 0, 0, 0x60,
-        0, 0, 0, 0x60, 0, 0, 0, 0x60, 0, 0, 0, 0x60, 0, 0, 0, 0x60, 0, 0, 0, 0x60, 0, 0, 0, 0x60,
-        0, 0, 0, 0x60, 0, 0, 0, 0x60, 0, 0, 0, 0x60, 0, 0, 0x12, 6, 0, 0, 0x60, 0x38,
-    ];
-
-    #[test]
-    fn prefix_at_a_blocks_end_has_no_suffix(rt: HostRuntime) -> Result<(), Fail> {
-        let printed = disassemble(rt.alloc(), &BLOCK_END)?;
-        let end =
-            "000000000000003c 06120000 .long 0x06120000\n0000000000000040 38600000 addi r3,r0,0\n";
-        assert!(rt; printed.as_slice().ends_with(end.as_bytes()));
-        Ok(())
-    }
+/// The statement of an instruction at an address, as its line of a disassembly has it. Assembled behind
+/// `.org` with the address it gives the instruction's words again; for words that were decoded these are
+/// the same ones where their reserved bits are 0. The only error is want of memory.
+pub fn print_statement(alloc: Global, insn: &Insn, at: u64) -> Result<Bytes, NoMemory>
+    requires insn { IsInsn insn.now }
+    requires room { at + code_size insn.now.row ≤ image_limit }
+    ensures text { IfOk result (λ text. text ≡ statement_text insn.now at) }
+    ensures again { IfOk result (λ text. AssemblesTo text at (code_bytes (encode_of insn.now))) }
+    ensures words { (code : Code) → IfSome code.suffix (λ n. n < 2 ^ 32) →
+        decode_of code.word code.suffix ≡ Is insn.now → HasNoReserved insn.now code →
+        IfOk result (λ text. AssemblesTo text at (code_bytes code)) }
+{
+    let mut text = Bytes::new(alloc);
+    add_statement(&mut text, insn, at)?;
+    Ok(text)
 }

@@ -26,5 +26,5 @@ mod values;
 mod vectors;
 
 pub use assembler::assemble;
-pub use disassembly::disassemble;
+pub use disassembly::{disassemble, print_statement};
 pub use fault::{AsmFault, What};

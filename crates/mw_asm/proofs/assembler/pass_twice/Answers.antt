@@ -1,6 +1,6 @@
-use Rattle.std.proofs.Common.{◌≡◌, ◌≤◌, Ok, Err, length, sym, ap, ◌∙◌, arith}
+use Rattle.std.proofs.Common.{◌≡◌, Ok, Err, sym, ap, ◌∙◌}
 use Rattle.std.proofs.lemmas.Result.{IfOk-weaker, IfErr-weaker}
-use Rattle.mw_asm.specs.Assembled.{assembled, first_pass, second_pass, lines_of, place_past}
+use Rattle.mw_asm.specs.Assembled.{assembled, first_pass, lines_of, place_past}
 use Rattle.mw_asm.specs.Passes.{IfBad, start}
 use Rattle.mw_asm.proofs.AssembledLemmas.{assembled-long, assembled-second, assembled-first, IfBad-weaker}
 use Rattle.mw_asm.proofs.assembler.pass_twice.Goals as goal

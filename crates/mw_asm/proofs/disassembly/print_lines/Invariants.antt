@@ -1,6 +1,7 @@
 use Rattle.std.proofs.Common.{◌≡◌, ◌-◌, ◌*◌, ◌++◌}
-use Rattle.mw_asm.specs.Disassembly.{lines_from, word_count, disassembly}
-use Rattle.mw_asm.proofs.disassembly.disassemble.Given as goal
+use Rattle.mw_asm.specs.Disassembly.{word_count, disassembly}
+use Rattle.mw_asm.proofs.DisassemblyLemmas.{lines_from}
+use Rattle.mw_asm.proofs.disassembly.print_lines.Given as goal
 
 -- what is written, with the lines of the words that are left, is the whole
 abbrev pub invariant-loop-place : goal.invariant-loop-place
