@@ -64,10 +64,13 @@ text_of-front name rest =
     ap (λ n. take n (name ++ rest)) size ∙ take-append_seam name rest
 
 -- an instruction's words have as many bytes as its row
-pub length-by : (insn : Insn) (row : Option TableRow) (layout : Option Layout) → slice_get table insn.row ≡ row → slice_get layouts insn.row ≡ layout → IsSomeAnd row (λ r. HasForms r insn) → IsSomeAnd layout (λ l. HasOperands (fields_of l) insn.ops.items) → length (code_bytes (encode_of insn)) ≡ code_size insn.row
+length-by : (insn : Insn) (row : Option TableRow) (layout : Option Layout) → slice_get table insn.row ≡ row → slice_get layouts insn.row ≡ layout → IsSomeAnd row (λ r. HasForms r insn) → IsSomeAnd layout (λ l. HasOperands (fields_of l) insn.ops.items) → length (code_bytes (encode_of insn)) ≡ code_size insn.row
 length-by insn None layout there laid forms has = absurd forms
 length-by insn (Some row) None there laid forms has = absurd has
 length-by insn (Some row) (Some layout) there laid forms has = encoded-length insn row layout there laid
+
+pub insn-length : (insn : Insn) → IsInsn insn → length (code_bytes (encode_of insn)) ≡ code_size insn.row
+insn-length insn is = length-by insn (slice_get table insn.row) (slice_get layouts insn.row) refl refl is.forms is.operands
 
 -- what an instruction's line is read as
 abbrev read_as : Insn → List Expression → Line
@@ -110,15 +113,11 @@ module _ (insn : Insn) (is : IsInsn insn) (at : ℕ) where
       (name-means insn is)
       (behind_name-read items insn.aa at insn.ops.items name (token_of Word 0 (length name)) listed.separated writable)
 
-  code-length : length (code_bytes (encode_of insn)) ≡ code_size insn.row
-  code-length =
-      length-by insn (slice_get table insn.row) (slice_get layouts insn.row) refl refl is.forms is.operands
-
   statement-first : at + code_size insn.row ≤ image_limit → first_line (record { at = at; known = [] }) (statement_text insn at) ≡ Ok (record { at = at + length (code_bytes (encode_of insn)); known = [] })
   unfolding first_line
   statement-first room =
       ap (first_by (record { at = at; known = [] }) (statement_text insn at)) (statement-line (omega arith))
-      ∙ rw (le-ltb image_limit (at + code_size insn.row) room) (ap (λ n. Ok (record { at = at + n; known = [] })) (sym code-length))
+      ∙ rw (le-ltb image_limit (at + code_size insn.row) room) (ap (λ n. Ok (record { at = at + n; known = [] })) (sym (insn-length insn is)))
 
   statement-second : at < 2 ^ 63 → second_line [] at (statement_text insn at) ≡ Ok (code_bytes (encode_of insn))
   unfolding second_line

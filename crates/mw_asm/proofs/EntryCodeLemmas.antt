@@ -17,17 +17,16 @@ use Rattle.mw_decode.specs.declared.insn.Decoded.{Decoded}
 use Rattle.mw_decode.specs.declared.insn.Decoded.TheVariants.{Insn as Is, Unavailable, Alignment, Illegal}
 use Rattle.mw_decode.specs.Rules.{is_illegal_form}
 use Rattle.mw_decode.specs.Unavailable.{without_row, without_row_prefixed}
-use Rattle.mw_decode.specs.Decode.{OnInsn, IsInsn, code_of, is_prefix, place_of, insn_of, insn_by, insn_at, insn_or, otherwise, decode_of}
-use Rattle.mw_decode.specs.Encode.{encode_of}
+use Rattle.mw_decode.specs.Decode.{OnInsn, code_of, is_prefix, place_of, insn_of, insn_by, insn_at, insn_or, otherwise, decode_of}
 use Rattle.mw_decode.proofs.InsnLemmas.{decode_of-Is}
 use Rattle.mw_decode.proofs.EncodeLemmas.{encode_of-decoded}
 use Rattle.mw_asm.specs.Values.{word_bytes, code_bytes}
 use Rattle.mw_asm.specs.Assembled.{code_size, image_limit}
 use Rattle.mw_asm.specs.Disassembly.{Entry, statement_of, long_entry, entry_by, entry_with}
-use Rattle.mw_asm.specs.Again.{entry_code, IsExact}
+use Rattle.mw_asm.specs.Again.{encoded_entry, IsExactIfClear}
 use Rattle.mw_asm.proofs.PrintedForms.{GivesBytes}
 use Rattle.mw_asm.proofs.SourceTextLemmas.{long-gives}
-use Rattle.mw_asm.proofs.AgainLemmas.{length-by, statement-gives}
+use Rattle.mw_asm.proofs.AgainLemmas.{insn-length, statement-gives}
 
 -- how many bytes a word has with its suffix
 abbrev pub size_by : Option ℕ → ℕ
@@ -97,10 +96,6 @@ place_of-size word (Some suffix) place e = behind-size word suffix place e
 decoded-size : (word : ℕ) (suffix : Option ℕ) (insn : Insn) → decode_of word suffix ≡ Is insn → code_size insn.row ≡ size_by suffix
 decoded-size word suffix insn is = place_of-size word suffix insn.row (insn_at-row (code_of word suffix) (place_of word suffix) insn (decode_of-found word suffix insn is))
 
--- so many bytes have its words
-insn-length : (insn : Insn) → IsInsn insn → length (code_bytes (encode_of insn)) ≡ code_size insn.row
-insn-length insn is = length-by insn (slice_get table insn.row) (slice_get layouts insn.row) refl refl is.forms is.operands
-
 word-length : (word : ℕ) → length (word_bytes word) ≡ 4
 unfolding le_bytes
 word-length word = refl
@@ -110,9 +105,9 @@ pub record IsEntry (at word : ℕ) (suffix : Option ℕ) (entry : Entry) : Type 
   pub place : entry.at ≡ at
   pub word_same : entry.word ≡ word
   pub suffix_same : IfSome entry.suffix (λ s. suffix ≡ Some s)
-  pub size : length (entry_code entry) ≡ size_by entry.suffix
-  pub gives : word < 2 ^ 32 → at + size_by entry.suffix ≤ image_limit → GivesBytes entry.at (statement_of entry) (entry_code entry)
-  pub exact : IfSome suffix (λ s. s < 2 ^ 32) → IsExact entry
+  pub size : length (encoded_entry entry) ≡ size_by entry.suffix
+  pub gives : word < 2 ^ 32 → at + size_by entry.suffix ≤ image_limit → GivesBytes entry.at (statement_of entry) (encoded_entry entry)
+  pub exact : IfSome suffix (λ s. s < 2 ^ 32) → IsExactIfClear entry
 
 -- a word alone
 long-IsEntry : (at word : ℕ) (suffix : Option ℕ) → IsEntry at word suffix (long_entry at word)

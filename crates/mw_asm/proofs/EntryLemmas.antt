@@ -9,7 +9,7 @@ use Rattle.std.proofs.lemmas.List.Elements.{All-nil, All-cons, All-head, All-tai
 use Rattle.mw_asm.specs.Values.{word_bytes}
 use Rattle.mw_asm.specs.Assembled.{image_limit}
 use Rattle.mw_asm.specs.Disassembly.{Entry, statement_of, image_byte, image_word, suffix_in, entry_at, entries_from, entries_of, word_count}
-use Rattle.mw_asm.specs.Again.{entry_code, entry_bytes, IsClear, IsExact, code_of, whole_words}
+use Rattle.mw_asm.specs.Again.{encoded_entry, entry_bytes, IsClear, IsExactIfClear, encoded_image, filled_image}
 use Rattle.mw_asm.proofs.PrintedForms.{GivesBytes}
 use Rattle.mw_asm.proofs.EntryCodeLemmas.{size_by, IsEntry, entry_with-IsEntry}
 
@@ -62,14 +62,14 @@ reach-by image at left count None is ends whole = omega arith
 reach-by image at left count (Some s) is ends whole = let within : at + 4 < length image = is.1 in omega arith
 
 -- the entries from an address on give what they stand for
-from-give : (image : List ℕ) (count : ℕ) → All (λ byte. byte < 2 ^ 8) image → length image ≤ 4 * count → 4 * count ≤ image_limit → (left : ℕ) (behind : Bool) (at : ℕ) → at + 4 * left ≡ 4 * count → All (λ (entry : Entry). GivesBytes entry.at (statement_of entry) (entry_code entry)) (entries_from left behind image at)
+from-give : (image : List ℕ) (count : ℕ) → All (λ byte. byte < 2 ^ 8) image → length image ≤ 4 * count → 4 * count ≤ image_limit → (left : ℕ) (behind : Bool) (at : ℕ) → at + 4 * left ≡ 4 * count → All (λ (entry : Entry). GivesBytes entry.at (statement_of entry) (encoded_entry entry)) (entries_from left behind image at)
 unfolding entries_from
-from-give image count bytes whole room zero behind at ends = All-nil (λ (entry : Entry). GivesBytes entry.at (statement_of entry) (entry_code entry))
+from-give image count bytes whole room zero behind at ends = All-nil (λ (entry : Entry). GivesBytes entry.at (statement_of entry) (encoded_entry entry))
 from-give image count bytes whole room (suc left) true at ends = from-give image count bytes whole room left false (at + 4) (omega arith)
 from-give image count bytes whole room (suc left) false at ends =
     let is = entry_at-IsEntry image at in
     let reach = reach-by image at left count (entry_at image at).suffix (entry-suffix image at) ends whole in
-    All-cons (λ (entry : Entry). GivesBytes entry.at (statement_of entry) (entry_code entry)) (entry_at image at) (entries_from left (is_some (entry_at image at).suffix) image (at + 4))
+    All-cons (λ (entry : Entry). GivesBytes entry.at (statement_of entry) (encoded_entry entry)) (entry_at image at) (entries_from left (is_some (entry_at image at).suffix) image (at + 4))
     (is.gives (word-below image at bytes) (omega arith))
     (from-give image count bytes whole room left (is_some (entry_at image at).suffix) (at + 4) (omega arith))
 
@@ -84,7 +84,7 @@ from-zero : (n : ℕ) → 0 + 4 * n ≡ 4 * n
 from-zero n = omega arith
 
 -- the statement of each entry gives what it stands for
-pub entries-give : (image : List ℕ) → All (λ byte. byte < 2 ^ 8) image → length image ≤ image_limit → All (λ (entry : Entry). GivesBytes entry.at (statement_of entry) (entry_code entry)) (entries_of image)
+pub entries-give : (image : List ℕ) → All (λ byte. byte < 2 ^ 8) image → length image ≤ image_limit → All (λ (entry : Entry). GivesBytes entry.at (statement_of entry) (encoded_entry entry)) (entries_of image)
 entries-give image bytes inside = from-give image (word_count image) bytes (count-whole image) (count-inside image inside) (word_count image) false 0 (from-zero (word_count image))
 
 -- the entries from an address on stand in the image
@@ -104,7 +104,7 @@ entries-inside image inside = from-inside image (word_count image) (count-inside
 -- entries stand behind each other, from an address on
 abbrev pub AreBehind : ℕ → List Entry → Type 0
 AreBehind at [] = ⊤
-AreBehind at (entry ∷ entries) = (entry.at ≡ at) × AreBehind (at + length (entry_code entry)) entries
+AreBehind at (entry ∷ entries) = (entry.at ≡ at) × AreBehind (at + length (encoded_entry entry)) entries
 
 -- where the next entry stands, if its word is no suffix, and if it is
 abbrev next_at : Bool → ℕ → ℕ
@@ -124,7 +124,7 @@ from-behind image (suc left) false at =
     let is = entry_at-IsEntry image at in (
       is.place,
       subst (λ n. AreBehind n (entries_from left (is_some (entry_at image at).suffix) image (at + 4)))
-          (behind-next at (entry_at image at).suffix (length (entry_code (entry_at image at))) is.size)
+          (behind-next at (entry_at image at).suffix (length (encoded_entry (entry_at image at))) is.size)
           (from-behind image left (is_some (entry_at image at).suffix) (at + 4)),
     )
 
@@ -133,25 +133,25 @@ pub entries-behind : (image : List ℕ) → AreBehind 0 (entries_of image)
 entries-behind image = from-behind image (word_count image) false 0
 
 -- each entry from an address on stands for its words, where its reserved bits are 0
-from-exact : (image : List ℕ) → All (λ byte. byte < 2 ^ 8) image → (left : ℕ) (behind : Bool) (at : ℕ) → All IsExact (entries_from left behind image at)
+from-exact : (image : List ℕ) → All (λ byte. byte < 2 ^ 8) image → (left : ℕ) (behind : Bool) (at : ℕ) → All IsExactIfClear (entries_from left behind image at)
 unfolding entries_from
-from-exact image bytes zero behind at = All-nil IsExact
+from-exact image bytes zero behind at = All-nil IsExactIfClear
 from-exact image bytes (suc left) true at = from-exact image bytes left false (at + 4)
 from-exact image bytes (suc left) false at =
-    All-cons IsExact (entry_at image at) (entries_from left (is_some (entry_at image at).suffix) image (at + 4))
+    All-cons IsExactIfClear (entry_at image at) (entries_from left (is_some (entry_at image at).suffix) image (at + 4))
     ((entry_at-IsEntry image at).exact (suffix-below image at bytes (suffix_in image at) (suffix_in-IsSuffix image at)))
     (from-exact image bytes left (is_some (entry_at image at).suffix) (at + 4))
 
 -- an entry whose reserved bits are 0 stands for its words
-pub entries-exact : (image : List ℕ) → All (λ byte. byte < 2 ^ 8) image → All IsExact (entries_of image)
+pub entries-exact : (image : List ℕ) → All (λ byte. byte < 2 ^ 8) image → All IsExactIfClear (entries_of image)
 entries-exact image bytes = from-exact image bytes (word_count image) false 0
 
 -- entries that stand for their words, all together
-all-exact : (entries : List Entry) → All IsExact entries → All IsClear entries → flat_map entry_code entries ≡ flat_map entry_bytes entries
+all-exact : (entries : List Entry) → All IsExactIfClear entries → All IsClear entries → flat_map encoded_entry entries ≡ flat_map entry_bytes entries
 all-exact [] exact clear = refl
 all-exact (entry ∷ entries) exact clear =
-    ap (λ bytes. bytes ++ flat_map entry_code entries) (All-head IsExact entry entries exact (All-head IsClear entry entries clear))
-    ∙ ap (λ bytes. entry_bytes entry ++ bytes) (all-exact entries (All-tail IsExact entry entries exact) (All-tail IsClear entry entries clear))
+    ap (λ bytes. bytes ++ flat_map encoded_entry entries) (All-head IsExactIfClear entry entries exact (All-head IsClear entry entries clear))
+    ∙ ap (λ bytes. entry_bytes entry ++ bytes) (all-exact entries (All-tail IsExactIfClear entry entries exact) (All-tail IsClear entry entries clear))
 
 -- so many words of an image from an address on, in bytes
 abbrev words_from : ℕ → List ℕ → ℕ → List ℕ
@@ -243,9 +243,9 @@ words-drop image filled bytes same (suc left) at ends =
 whole-length : (image : List ℕ) (count : ℕ) → length image ≤ 4 * count → length (image ++ replicate (4 * count - length image) 0) ≡ 0 + 4 * count
 whole-length image count whole = omega (arith, length-append image (replicate (4 * count - length image) 0), length-replicate {A = ℕ} (4 * count - length image) 0)
 
--- and where that is so of all, they are the image
-pub entries-whole : (image : List ℕ) → All (λ byte. byte < 2 ^ 8) image → All IsClear (entries_of image) → code_of image ≡ whole_words image
+-- what the statements of an image stand for is the image, if no reserved bit is set
+pub entries-whole : (image : List ℕ) → All (λ byte. byte < 2 ^ 8) image → All IsClear (entries_of image) → encoded_image image ≡ filled_image image
 entries-whole image bytes clear =
     all-exact (entries_of image) (entries-exact image bytes) clear
     ∙ from-words image (word_count image) (count-whole image) (word_count image) false 0 (from-zero (word_count image)) (λ e. absurd (true≢false (sym e)))
-    ∙ words-drop image (whole_words image) bytes (filled-byte image (4 * word_count image - length image)) (word_count image) 0 (sym (whole-length image (word_count image) (count-whole image)))
+    ∙ words-drop image (filled_image image) bytes (filled-byte image (4 * word_count image - length image)) (word_count image) 0 (sym (whole-length image (word_count image) (count-whole image)))

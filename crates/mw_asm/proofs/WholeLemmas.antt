@@ -5,7 +5,7 @@ use Rattle.std.specs.List.{concat}
 use Rattle.std.proofs.lemmas.List.{get_or_default}
 use Rattle.mw_asm.specs.Assembled.{image_limit, source_limit, assembled}
 use Rattle.mw_asm.specs.Disassembly.{Entry, statement_of, entries_of}
-use Rattle.mw_asm.specs.Again.{AssemblesAgain, entry_code, code_of, statements_of}
+use Rattle.mw_asm.specs.Again.{AssemblesAgain, encoded_entry, encoded_image, statements_of}
 use Rattle.mw_asm.proofs.PrintedForms.{GivesBytes}
 use Rattle.mw_asm.proofs.GivenLinesLemmas.{AreGiven, source_of, given-assembled}
 use Rattle.mw_asm.proofs.SourceTextLemmas.{gives-AssemblesTo}
@@ -17,20 +17,20 @@ bytes-small image small place other within = subst (λ byte. byte < 2 ^ 8) (get_
 
 -- the entry's statement gives what it stands for at its address
 abbrev GivesCode : Entry → Type 0
-GivesCode entry = GivesBytes entry.at (statement_of entry) (entry_code entry)
+GivesCode entry = GivesBytes entry.at (statement_of entry) (encoded_entry entry)
 
 -- each entry's statement assembles to that
 pub image-again : (image : List ℕ) → All (λ byte. byte < 2 ^ 8) image → length image ≤ image_limit → All AssemblesAgain (entries_of image)
 image-again image bytes inside place other within =
     let entry = get_or (entries_of image) place other in
-    gives-AssemblesTo entry.at (statement_of entry) (entry_code entry) (entries-inside image inside place other within) (entries-give image bytes inside place other within)
+    gives-AssemblesTo entry.at (statement_of entry) (encoded_entry entry) (entries-inside image inside place other within) (entries-give image bytes inside place other within)
 
 -- entries behind each other give lines behind each other
-entries-given : (at : ℕ) (entries : List Entry) → All GivesCode entries → AreBehind at entries → AreGiven at (map statement_of entries) (map entry_code entries)
+entries-given : (at : ℕ) (entries : List Entry) → All GivesCode entries → AreBehind at entries → AreGiven at (map statement_of entries) (map encoded_entry entries)
 entries-given at [] give behind = tt
 entries-given at (entry ∷ entries) give behind = (
-  subst (λ a. GivesBytes a (statement_of entry) (entry_code entry)) behind.0 (give zero entry (omega arith)),
-  entries-given (at + length (entry_code entry)) entries (λ k d lt. give (suc k) d (omega arith)) behind.1,
+  subst (λ a. GivesBytes a (statement_of entry) (encoded_entry entry)) behind.0 (give zero entry (omega arith)),
+  entries-given (at + length (encoded_entry entry)) entries (λ k d lt. give (suc k) d (omega arith)) behind.1,
 )
 
 -- a source of statements is their lines
@@ -41,16 +41,16 @@ source-statements (entry ∷ entries) =
     ∙ sym (append_assoc (statement_of entry) (10 ∷ []) (flat_map (λ e. statement_of e ++ 10 ∷ []) entries))
 
 -- what statements stand for, one behind the other
-concat-codes : (entries : List Entry) → concat (map entry_code entries) ≡ flat_map entry_code entries
+concat-codes : (entries : List Entry) → concat (map encoded_entry entries) ≡ flat_map encoded_entry entries
 concat-codes [] = refl
-concat-codes (entry ∷ entries) = ap (λ rest. entry_code entry ++ rest) (concat-codes entries)
+concat-codes (entry ∷ entries) = ap (λ rest. encoded_entry entry ++ rest) (concat-codes entries)
 
 -- the statements of an image in one source
-pub image-assembled : (image : List ℕ) → All (λ byte. byte < 2 ^ 8) image → length image ≤ image_limit → length (statements_of image) ≤ source_limit → assembled (statements_of image) ≡ Ok (code_of image)
+pub image-assembled : (image : List ℕ) → All (λ byte. byte < 2 ^ 8) image → length image ≤ image_limit → length (statements_of image) ≤ source_limit → assembled (statements_of image) ≡ Ok (encoded_image image)
 image-assembled image bytes inside short =
     let entries = entries_of image in
     let same = source-statements entries in
     let given = entries-given 0 entries (entries-give image bytes inside) (entries-behind image) in
     ap assembled (sym same)
-    ∙ given-assembled (map statement_of entries) (map entry_code entries) given (subst (λ text. length text ≤ source_limit) (sym same) short)
+    ∙ given-assembled (map statement_of entries) (map encoded_entry entries) given (subst (λ text. length text ≤ source_limit) (sym same) short)
     ∙ ap Ok (concat-codes entries)

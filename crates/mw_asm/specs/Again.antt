@@ -1,6 +1,9 @@
 -- A printed statement, assembled again: what it stands for at its address, and what the statements of a whole image give.
-use Rattle.std.specs.Prelude.{⊤, ℕ, ◌-◌, ◌*◌, ◌≡◌, List, ◌∷◌, [], ◌++◌, Option, Some, None, Ok, codes, decimal, replicate, length, flat_map}
+use Rattle.std.specs.Prelude.{⊤, ℕ, ◌-◌, ◌*◌, ◌^◌, ◌<◌, ◌≡◌, List, ◌∷◌, [], ◌++◌, Option, Some, None, IfSome, Ok, codes, decimal, replicate, length, flat_map}
 use Rattle.mw_decode.specs.declared.insn.Insn.{Insn}
+use Rattle.mw_decode.specs.declared.insn.Code.{Code}
+use Rattle.mw_decode.specs.declared.insn.Decoded.TheVariants.{Insn as Is}
+use Rattle.mw_decode.specs.Decode.{decode_of}
 use Rattle.mw_decode.specs.Encode.{encode_of, HasNoReserved}
 use Rattle.mw_asm.specs.Values.{word_bytes, code_bytes}
 use Rattle.mw_asm.specs.Assembled.{assembled}
@@ -18,24 +21,28 @@ image_at at bytes = replicate at 0 ++ bytes
 abbrev pub AssemblesTo : List ℕ → ℕ → List ℕ → Type 0
 AssemblesTo statement at bytes = assembled (source_at at statement) ≡ Ok (image_at at bytes)
 
--- what a statement stands for: the words of an instruction, or the word that is none
-abbrev pub code_by : ℕ → Option Insn → List ℕ
-code_by word (Some insn) = code_bytes (encode_of insn)
-code_by word None = word_bytes word
+-- words that are this instruction, with no reserved bit set
+abbrev pub IsClearCode : Code → Insn → Type 0
+IsClearCode code insn = IfSome code.suffix (λ n. n < 2 ^ 32) × (decode_of code.word code.suffix ≡ Is insn) × HasNoReserved insn code
+
+-- the words that an instruction has as a statement, or the word that is none
+abbrev pub encoded_or_word : ℕ → Option Insn → List ℕ
+encoded_or_word word (Some insn) = code_bytes (encode_of insn)
+encoded_or_word word None = word_bytes word
 
 -- what an entry's statement stands for
-abbrev pub entry_code : Entry → List ℕ
-entry_code entry = code_by entry.word entry.insn
+abbrev pub encoded_entry : Entry → List ℕ
+encoded_entry entry = encoded_or_word entry.word entry.insn
 
--- an entry's statement assembles to that at its address
+-- an entry's statement assembles, at its address, to what it stands for
 abbrev pub AssemblesAgain : Entry → Type 0
-AssemblesAgain entry = AssemblesTo (statement_of entry) entry.at (entry_code entry)
+AssemblesAgain entry = AssemblesTo (statement_of entry) entry.at (encoded_entry entry)
 
 -- the words of an entry, in bytes
 abbrev pub entry_bytes : Entry → List ℕ
 entry_bytes entry = code_bytes (record { word = entry.word; suffix = entry.suffix })
 
--- the bits of an instruction's words that mean nothing are 0
+-- no reserved bit of an instruction's words is set; a word that is no instruction has none
 abbrev pub ClearBy : ℕ → Option ℕ → Option Insn → Type 0
 ClearBy word suffix (Some insn) = HasNoReserved insn (record { word = word; suffix = suffix })
 ClearBy word suffix None = ⊤
@@ -44,18 +51,18 @@ ClearBy word suffix None = ⊤
 abbrev pub IsClear : Entry → Type 0
 IsClear entry = ClearBy entry.word entry.suffix entry.insn
 
--- where that is so, an entry's statement stands for its words
-abbrev pub IsExact : Entry → Type 0
-IsExact entry = IsClear entry → entry_code entry ≡ entry_bytes entry
+-- an entry's statement stands for the entry's own words, if no reserved bit of them is set
+abbrev pub IsExactIfClear : Entry → Type 0
+IsExactIfClear entry = IsClear entry → encoded_entry entry ≡ entry_bytes entry
 
 -- the statements of an image, a line each
 abbrev pub statements_of : List ℕ → List ℕ
 statements_of image = flat_map (λ entry. statement_of entry ++ 10 ∷ []) (entries_of image)
 
--- what they stand for
-abbrev pub code_of : List ℕ → List ℕ
-code_of image = flat_map entry_code (entries_of image)
+-- what the statements of an image stand for, one behind the other
+abbrev pub encoded_image : List ℕ → List ℕ
+encoded_image image = flat_map encoded_entry (entries_of image)
 
 -- an image, its last word filled with zeros
-abbrev pub whole_words : List ℕ → List ℕ
-whole_words image = image ++ replicate (4 * word_count image - length image) 0
+abbrev pub filled_image : List ℕ → List ℕ
+filled_image image = image ++ replicate (4 * word_count image - length image) 0

@@ -104,13 +104,13 @@ abbrev pub long_statement : ℕ → List ℕ
 long_statement word = codes ".long 0x" ++ hex 8 word
 
 -- the statement of an instruction at an address, or of a word that is none
-abbrev pub statement_by : ℕ → ℕ → Option Insn → List ℕ
-statement_by at word (Some insn) = statement_text insn at
-statement_by at word None = long_statement word
+abbrev pub statement_or_long : ℕ → ℕ → Option Insn → List ℕ
+statement_or_long at word (Some insn) = statement_text insn at
+statement_or_long at word None = long_statement word
 
 -- the statement of an entry
 abbrev pub statement_of : Entry → List ℕ
-statement_of entry = statement_by entry.at entry.word entry.insn
+statement_of entry = statement_or_long entry.at entry.word entry.insn
 
 -- the line of an entry
 abbrev pub entry_text : Entry → List ℕ

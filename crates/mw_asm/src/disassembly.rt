@@ -1,15 +1,14 @@
 ghost use Rattle.std.specs.Prelude.{◌≡◌, ℕ, ◌+◌, ◌<◌, ◌≤◌, ◌^◌, Bool, false, if◌then◌else◌, pos, ◌+ℤ◌, [], ◌∷◌, ◌++◌, length, is_some, All, Ok, IfOk, IfSome, IsTrue, OnOk};
 ghost use Rattle.std.specs.Int.{w64, cast_unsigned};
 ghost use Rattle.mw_decode.specs.declared.insn.Code.{Code};
-ghost use Rattle.mw_decode.specs.declared.insn.Decoded.TheVariants.{Insn as Is};
 ghost use Rattle.mw_decode.specs.Decode.{decode_of, is_prefix, IsInsn};
-ghost use Rattle.mw_decode.specs.Encode.{encode_of, HasNoReserved};
+ghost use Rattle.mw_decode.specs.Encode.{encode_of};
 ghost use Rattle.mw_asm.specs.Items.{items_of};
 ghost use Rattle.mw_asm.specs.Lines.{shape_at};
 ghost use Rattle.mw_asm.specs.Mnemonics.{ending, spelled};
 ghost use Rattle.mw_asm.specs.Values.{code_bytes};
 ghost use Rattle.mw_asm.specs.Assembled.{assembled, code_size, image_limit, source_limit};
-ghost use Rattle.mw_asm.specs.Again.{code_of, statements_of, whole_words, AssemblesAgain, AssemblesTo, IsClear, IsExact};
+ghost use Rattle.mw_asm.specs.Again.{encoded_image, statements_of, filled_image, AssemblesAgain, AssemblesTo, IsClear, IsClearCode, IsExactIfClear};
 ghost use Rattle.mw_asm.specs.Disassembly.{operand_text, operands_text, behind_name, name_at, statement_text, image_byte, image_word, suffix_in, words_text, line_text, entry_text, long_entry, entry_by, entry_with, entry_at, entries_of, disassembly};
 
 use crate::digits::{add_decimal, add_hex, add_short_hex};
@@ -321,29 +320,29 @@ fn print_lines(alloc: Global, image: &[u8]) -> Result<Bytes, NoMemory>
 /// with that one word. The last word is filled with zeros. The only error is want of memory.
 ///
 /// Each statement of an image of at most 16,777,216 bytes, assembled behind `.org` with its address, gives
-/// its words again but for reserved bits, which it leaves 0; and so do all of them in one source, as far as
-/// that has at most 4 MiB.
+/// its words again but for reserved bits, which become 0; so do all of them in one source, if that has at
+/// most 4 MiB. The clauses behind `text` are these laws of the definition that `text` names.
 pub fn disassemble(alloc: Global, image: &[u8]) -> Result<Bytes, NoMemory>
     ensures text { IfOk result (λ text. text ≡ disassembly image.now) }
     ensures again { length image.now ≤ image_limit → All AssemblesAgain (entries_of image.now) }
     ensures source { length image.now ≤ image_limit → length (statements_of image.now) ≤ source_limit →
-        assembled (statements_of image.now) ≡ Ok (code_of image.now) }
-    ensures exact { All IsExact (entries_of image.now) }
-    ensures whole { All IsClear (entries_of image.now) → code_of image.now ≡ whole_words image.now }
+        assembled (statements_of image.now) ≡ Ok (encoded_image image.now) }
+    ensures exact { All IsExactIfClear (entries_of image.now) }
+    ensures whole { All IsClear (entries_of image.now) → encoded_image image.now ≡ filled_image image.now }
 {
     print_lines(alloc, image)
 }
 
-/// The statement of an instruction at an address, as its line of a disassembly has it. Assembled behind
-/// `.org` with the address it gives the instruction's words again; for words that were decoded these are
-/// the same ones where their reserved bits are 0. The only error is want of memory.
+/// The statement of an instruction at an address, as its line of a disassembly has it. The instruction is
+/// one of the table, and its words end at or below 16,777,216. Assembled behind `.org` with the address, the
+/// statement gives `encode`'s words of the instruction; if it was decoded from words without set reserved
+/// bits, these. The only error is want of memory.
 pub fn print_statement(alloc: Global, insn: &Insn, at: u64) -> Result<Bytes, NoMemory>
     requires insn { IsInsn insn.now }
     requires room { at + code_size insn.now.row ≤ image_limit }
     ensures text { IfOk result (λ text. text ≡ statement_text insn.now at) }
     ensures again { IfOk result (λ text. AssemblesTo text at (code_bytes (encode_of insn.now))) }
-    ensures words { (code : Code) → IfSome code.suffix (λ n. n < 2 ^ 32) →
-        decode_of code.word code.suffix ≡ Is insn.now → HasNoReserved insn.now code →
+    ensures words { (code : Code) → IsClearCode code insn.now →
         IfOk result (λ text. AssemblesTo text at (code_bytes code)) }
 {
     let mut text = Bytes::new(alloc);

@@ -14,5 +14,5 @@ returns-clause-again c =
     subst (λ t. AssemblesTo t c.args.at (code_bytes (encode_of c.args.insn.now))) (sym text) (statement-assembles c.args.insn.now c.requires.insn c.args.at c.requires.room)
 
 pub returns-clause-words : goal.returns-clause-words
-returns-clause-words c code below is clear =
-    subst (λ (k : Code). AssemblesTo c.add_statement.new.text c.args.at (code_bytes k)) (encode_of-decoded c.args.insn.now code.word code.suffix below is clear) (returns-clause-again c)
+returns-clause-words c code is =
+    subst (λ (k : Code). AssemblesTo c.add_statement.new.text c.args.at (code_bytes k)) (encode_of-decoded c.args.insn.now code.word code.suffix is.0 is.1 is.2) (returns-clause-again c)
