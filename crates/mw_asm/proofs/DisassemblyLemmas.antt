@@ -1,48 +1,25 @@
 -- The operands of an instruction as they are printed, and the lines of an image.
-use Rattle.std.proofs.Common.{◌≡◌, ℕ, zero, suc, ◌+◌, ◌-◌, ◌*◌, ◌/◌, ◌%◌, ◌<◌, ◌≤◌, ◌==◌, Bool, true, false, not, cond, if◌then◌else◌, List, [], ◌∷◌, ◌++◌, Some, None, length, drop, get_or, slice_get, codes, decimal, refl, sym, ap, ◌∙◌, append_assoc, arith}
+use Rattle.std.proofs.Common.{◌≡◌, ℕ, suc, ◌+◌, ◌-◌, ◌*◌, ◌<◌, ◌≤◌, ◌==◌, Bool, true, false, not, if◌then◌else◌, List, [], ◌∷◌, ◌++◌, Some, None, length, drop, get_or, slice_get, codes, refl, sym, ap, ◌∙◌, append_assoc, arith}
 use Rattle.std.proofs.lemmas.List.{append-nil, drop_more, drop_all}
-use Rattle.std.specs.Prelude.{ℤ, pos, unsigned_abs, int_lt, flat_map, is_some}
-use Rattle.std.specs.Fmt.{digits, digits_onto, digit_glyph}
+use Rattle.std.specs.Prelude.{ℤ, flat_map, is_some}
 use Rattle.std.proofs.Math.ListN.{length-append}
+use Rattle.mw_digits.proofs.DigitLaws.{signed-some}
 use Rattle.mw_asm.specs.declared.item.Kind.{Kind}
 use Rattle.mw_asm.specs.declared.item.Kind.TheVariants.{Register, Value, Target, Upper}
 use Rattle.mw_asm.specs.declared.item.Item.{Item}
 use Rattle.mw_asm.specs.declared.item.Item.TheVariants.{Operand, Comma, Open, Close}
 use Rattle.mw_asm.proofs.ReadingLemmas.{eqb-other}
-use Rattle.mw_asm.specs.Disassembly.{signed_decimal, operand_text, operands_text, behind_name, entry_text, entry_at, entries_from, word_count, disassembly}
-
--- both branches have a byte
-cond-some : (b : Bool) (xs ys : List ℕ) → 0 < length xs → 0 < length ys → 0 < length (cond b xs ys)
-cond-some true xs ys first second = first
-cond-some false xs ys first second = second
-
--- digits in front of others
-onto-some : (k n : ℕ) (x : ℕ) (acc : List ℕ) → 0 < length (digits_onto k 10 false n (x ∷ acc))
-onto-some zero n x acc = omega arith
-onto-some (suc k) n x acc =
-    cond-some (n / 10 == 0) (digit_glyph false (n % 10) ∷ x ∷ acc) (digits_onto k 10 false (n / 10) (digit_glyph false (n % 10) ∷ x ∷ acc)) (omega arith) (onto-some k (n / 10) (digit_glyph false (n % 10)) (x ∷ acc))
-
-onto-first : (k n : ℕ) → 0 < length (digits_onto (suc k) 10 false n [])
-onto-first k n =
-    cond-some (n / 10 == 0) (digit_glyph false (n % 10) ∷ []) (digits_onto k 10 false (n / 10) (digit_glyph false (n % 10) ∷ [])) (omega arith) (onto-some k (n / 10) (digit_glyph false (n % 10)) [])
-
--- a decimal number has a digit
-decimal-some : (n : ℕ) → 0 < length (decimal n)
-unfolding digits
-decimal-some n = onto-first 63 n
-
-signed-some : (z : ℤ) → 0 < length (signed_decimal z)
-signed-some z = cond-some (int_lt z (pos 0)) (45 ∷ decimal (unsigned_abs z)) (decimal (unsigned_abs z)) (omega arith) (decimal-some (unsigned_abs z))
+use Rattle.mw_asm.specs.Disassembly.{operand_text, operands_text, behind_name, entry_text, entry_at, entries_from, word_count, disassembly}
 
 -- an operand has a byte
-operand-some : (kind : Kind) (aa : Bool) (at : ℕ) (z : ℤ) → 0 < length (operand_text kind aa at z)
+pub operand-some : (kind : Kind) (aa : Bool) (at : ℕ) (z : ℤ) → 0 < length (operand_text kind aa at z)
 operand-some Register aa at z = omega arith
 operand-some Target aa at z = omega arith
 operand-some Value aa at z = signed-some z
 operand-some Upper aa at z = signed-some z
 
 -- what has a byte stands behind a blank
-behind-some : (bytes : List ℕ) → 0 < length bytes → behind_name bytes ≡ 32 ∷ bytes
+pub behind-some : (bytes : List ℕ) → 0 < length bytes → behind_name bytes ≡ 32 ∷ bytes
 behind-some [] some = absurd (omega arith)
 behind-some (byte ∷ bytes) some = refl
 

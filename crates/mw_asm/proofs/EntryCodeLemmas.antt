@@ -1,5 +1,5 @@
 -- One entry: how many bytes its statement stands for, what the statement gives, and that it stands for its words.
-use Rattle.std.proofs.Common.{rules, ◌≡◌, ℕ, ◌+◌, ◌^◌, ◌<◌, ◌≤◌, Bool, true, false, cond, Option, Some, None, if◌then◌else◌, length, refl, sym, ap, ◌∙◌, subst, arith}
+use Rattle.std.proofs.Common.{◌≡◌, ℕ, ◌+◌, ◌^◌, ◌<◌, ◌≤◌, Bool, true, false, Option, Some, None, if◌then◌else◌, length, refl, sym, ap, ◌∙◌, subst, arith}
 use Rattle.std.specs.Prelude.{IfSome, IsSomeAnd, IsTrue, slice_get, nat_lt}
 use Rattle.std.specs.Option.{option_map_or}
 use Rattle.std.specs.Hash.{le_bytes}
@@ -7,7 +7,6 @@ use Rattle.std.proofs.lemmas.Bool.{and_parts, eqb-true}
 use Rattle.std.proofs.lemmas.List.{append-nil}
 use Rattle.mw_tables.specs.declared.row.PrefixKind.{PrefixKind}
 use Rattle.mw_tables.specs.declared.row.PrefixKind.TheVariants.{Plain, Mls, Eight, Nop}
-use Rattle.mw_tables.specs.declared.layout.Layout.{Layout}
 use Rattle.mw_tables.specs.Row.{TableRow}
 use Rattle.mw_tables.specs.Rows.{table, layouts}
 use Rattle.mw_tables.specs.Matching.{kind_number, matches, row_place}
@@ -15,10 +14,9 @@ use Rattle.mw_tables.proofs.Places.{row_place-MatchesAt}
 use Rattle.mw_decode.specs.declared.insn.Insn.{Insn}
 use Rattle.mw_decode.specs.declared.insn.Decoded.{Decoded}
 use Rattle.mw_decode.specs.declared.insn.Decoded.TheVariants.{Insn as Is, Unavailable, Alignment, Illegal}
-use Rattle.mw_decode.specs.Rules.{is_illegal_form}
-use Rattle.mw_decode.specs.Unavailable.{without_row, without_row_prefixed}
-use Rattle.mw_decode.specs.Decode.{OnInsn, code_of, is_prefix, place_of, insn_of, insn_by, insn_at, insn_or, otherwise, decode_of}
+use Rattle.mw_decode.specs.Decode.{code_of, is_prefix, place_of, decode_of, insn_at}
 use Rattle.mw_decode.proofs.InsnLemmas.{decode_of-Is}
+use Rattle.mw_decode.proofs.EncodeBack.{decode_of-found, insn_at-Stands}
 use Rattle.mw_decode.proofs.EncodeLemmas.{encode_of-decoded}
 use Rattle.mw_asm.specs.Values.{word_bytes, code_bytes}
 use Rattle.mw_asm.specs.Assembled.{code_size, image_limit}
@@ -33,39 +31,11 @@ abbrev pub size_by : Option ℕ → ℕ
 size_by None = 4
 size_by (Some suffix) = 8
 
--- what a word is without a row is no instruction
-without_row-none : (word : ℕ) → OnInsn (λ insn. ⊥) (without_row word)
-without_row-none word = search rules
-
-without_row_prefixed-none : (prefix suffix : ℕ) → OnInsn (λ insn. ⊥) (without_row_prefixed prefix suffix)
-without_row_prefixed-none prefix suffix = search rules
-
-otherwise-none : (word : ℕ) (suffix : Option ℕ) → OnInsn (λ insn. ⊥) (otherwise word suffix)
-otherwise-none word None = without_row-none word
-otherwise-none word (Some suffix) = without_row_prefixed-none word suffix
-
-insn_or-found : (found : Option Insn) (other : Decoded) (insn : Insn) → OnInsn (λ i. ⊥) other → insn_or found other ≡ Is insn → found ≡ Some insn
-insn_or-found (Some x) other insn none e = let same : x ≡ insn = cc in ap Some same
-insn_or-found None other insn none e = let no_insn = subst (λ d. OnInsn (λ i. ⊥) d) e none in absurd no_insn
-
--- a word that is an instruction has it at a place of the table
-decode_of-found : (word : ℕ) (suffix : Option ℕ) (insn : Insn) → decode_of word suffix ≡ Is insn → insn_at (code_of word suffix) (place_of word suffix) ≡ Some insn
-unfolding decode_of
-decode_of-found word suffix insn e = insn_or-found (insn_at (code_of word suffix) (place_of word suffix)) (otherwise word suffix) insn (otherwise-none word suffix) e
-
-if_legal-row : (illegal : Bool) (made insn : Insn) → cond illegal None (Some made) ≡ Some insn → made.row ≡ insn.row
-if_legal-row true made insn e = cc
-if_legal-row false made insn e = let same : made ≡ insn = cc in ap (λ (i : Insn). i.row) same
-
-insn_by-row : (code place : ℕ) (row : Option TableRow) (layout : Option Layout) (insn : Insn) → insn_by code place row layout ≡ Some insn → place ≡ insn.row
-insn_by-row code place None layout insn e = cc
-insn_by-row code place (Some row) None insn e = cc
-insn_by-row code place (Some row) (Some layout) insn e = if_legal-row (is_illegal_form place (insn_of code place row layout).ops.items) (insn_of code place row layout) insn e
-
--- and that is its row
+-- an instruction that a code is stands at its row
 insn_at-row : (code : ℕ) (found : Option ℕ) (insn : Insn) → insn_at code found ≡ Some insn → found ≡ Some insn.row
-insn_at-row code None insn e = cc
-insn_at-row code (Some place) insn e = ap Some (insn_by-row code place (slice_get table place) (slice_get layouts place) insn e)
+insn_at-row code found insn e =
+    let stands = insn_at-Stands code found insn e in
+    stands.1 ∙ ap (λ (i : Insn). Some i.row) stands.2.same
 
 -- how many bytes an instruction has behind a prefix of this kind
 abbrev kind_size : PrefixKind → ℕ

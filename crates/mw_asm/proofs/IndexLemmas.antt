@@ -11,13 +11,13 @@ use Rattle.std.proofs.lemmas.Bool.{and_parts, not-true, ltb-true, ltb-false}
 use Rattle.std.proofs.lemmas.Cmp.{nat_list_cmp_total, tied_itself}
 use Rattle.std.proofs.lemmas.List.Sorted.{searchable_from_sorted}
 use Rattle.std.proofs.lemmas.Map.Lookups.{exact_bytes}
-use Rattle.std.proofs.lemmas.Option.{slice_get-get_or, slice_get_within, get_or_from_slice_get, same_Some, none-some}
+use Rattle.std.proofs.lemmas.Option.{slice_get-get_or, slice_get_within, get_or_from_slice_get}
 use Rattle.std.proofs.lemmas.Slice.Eq.{bytes_eq-Decides}
 use Rattle.mw_asm.specs.declared.mnemonic.Mnemonic.{Mnemonic}
 use Rattle.mw_asm.specs.declared.spelling.Spelled.{Spelled}
 use Rattle.mw_asm.specs.Mnemonics.{Spelling, spellings, mnemonic_of}
 use Rattle.mw_asm.specs.Index.{is_before, is_among, IsIndex}
-use Rattle.mw_asm.proofs.MnemonicLemmas.{same_at, IsSpelling, mnemonic_of-IsSpelling}
+use Rattle.mw_asm.proofs.MnemonicLemmas.{list_all-at, same_at, IsSpelling, mnemonic_of-IsSpelling}
 
 -- none is before the one in front of it
 abbrev pub is_sorted : List Spelled → Bool
@@ -37,12 +37,6 @@ is_sorted-IsSortedBy (e ∷ next ∷ es) sorted (suc k) d low high = rw next_pla
 -- what the three tests say
 pub tests-IsIndex : (entries : List Spelled) → is_sorted entries ≡ true → map (λ (entry : Spelled). mnemonic_of entry.name.now) entries ≡ map (λ (entry : Spelled). Some entry.mnemonic) entries → list_all (λ (spelling : Spelling). is_among entries spelling.name) spellings ≡ true → IsIndex entries
 tests-IsIndex entries sorted meant whole = record { sorted = is_sorted-IsSortedBy entries sorted; meant = meant; whole = whole }
-
--- what holds of all holds at a place
-list_all-at : {X : Type 0} (p : X → Bool) (xs : List X) (place : ℕ) (x : X) → list_all p xs ≡ true → slice_get xs place ≡ Some x → p x ≡ true
-list_all-at p [] place x all there = absurd (none-some x there)
-list_all-at p (y ∷ ys) zero x all there = ap p (sym (same_Some _ _ there)) ∙ (and_parts _ _ all).0
-list_all-at p (y ∷ ys) (suc k) x all there = list_all-at p ys k x (and_parts _ _ all).1 there
 
 -- an entry of a name, with its place
 record IsEntry (entries : List Spelled) (name : List ℕ) : Type 0 where

@@ -1,12 +1,11 @@
 -- The operands of an instruction, one after the other, and the bytes of its words.
-use Rattle.std.proofs.Common.{◌≡◌, ℕ, zero, suc, ◌+◌, ◌≤◌, Bool, true, false, true≢false, ◌&&◌, List, [], ◌∷◌, ◌++◌, Some, None, Result, Ok, Err, length, drop, slice_get, refl, sym, ap, subst, ◌∙◌, append_assoc}
+use Rattle.std.proofs.Common.{◌≡◌, ℕ, ◌+◌, ◌≤◌, Bool, true, false, true≢false, ◌&&◌, List, [], ◌∷◌, ◌++◌, Some, None, Result, Ok, Err, length, drop, slice_get, refl, sym, ap, subst, ◌∙◌, append_assoc}
 use Rattle.std.specs.Prelude.{ℤ}
 use Rattle.std.specs.Option.{option_map_or}
 use Rattle.std.specs.Int.{w32, to_le_bytes}
 use Rattle.std.specs.Hash.{le_bytes}
 use Rattle.std.specs.List.{list_all}
-use Rattle.std.proofs.lemmas.Bool.{and_parts}
-use Rattle.std.proofs.lemmas.Option.{slice_get_within, get_or_from_slice_get, same_Some, none-some}
+use Rattle.std.proofs.lemmas.Option.{slice_get_within, get_or_from_slice_get}
 use Rattle.std.proofs.lemmas.List.{append-nil, drop_more, at_drop_all}
 use Rattle.mw_decode.specs.declared.insn.Code.{Code}
 use Rattle.mw_decode.specs.declared.insn.Insn.{Insn}
@@ -26,6 +25,7 @@ use Rattle.mw_asm.specs.Items.{kinds_of, pattern_items}
 use Rattle.mw_asm.specs.Lines.{shape_at}
 use Rattle.mw_asm.specs.Values.{Placed, value_of, operand_by, and_operands, operands_of, written_fields, fields_at, insn_of, word_bytes, code_bytes}
 use Rattle.mw_asm.specs.Sizes.{IsWritten}
+use Rattle.mw_asm.proofs.MnemonicLemmas.{list_all-at}
 use Rattle.mw_asm.proofs.MeaningLemmas.{MeansRow, MeansRow-forms, MeansRow-laid}
 use Rattle.mw_asm.proofs.OperandLemmas.{operands_of-HasOperands}
 
@@ -96,11 +96,6 @@ pub operands-end : (labels : List Placed) (at : ℕ) (line : List ℕ) (aa : Boo
 unfolding operands_of
 operands-end labels at line aa es ks fs place front whole past same =
     before-end front whole (sym (at_drop_all (λ left. before front (operands_of labels at line aa left (drop place ks) (drop place fs))) es place past) ∙ same)
-
-list_all-at : {X : Type 0} (p : X → Bool) (xs : List X) (place : ℕ) (x : X) → list_all p xs ≡ true → slice_get xs place ≡ Some x → p x ≡ true
-list_all-at p [] place x all there = absurd (none-some x there)
-list_all-at p (y ∷ ys) zero x all there = ap p (sym (same_Some _ _ there)) ∙ (and_parts _ _ all).0
-list_all-at p (y ∷ ys) (suc k) x all there = list_all-at p ys k x (and_parts _ _ all).1 there
 
 first-and-third : (a b c : Bool) → (a && (b && c)) ≡ true → (a && c) ≡ true
 first-and-third true true c e = e

@@ -15,10 +15,8 @@ pub mod PassLemmas
 pub mod SecondLemmas
 pub mod AssembledLemmas
 pub mod SourceLemmas
-mod DisassemblyDigitLemmas
 mod DisassemblyLemmas
 pub mod PrintedForms
-mod DigitTextLemmas
 pub mod TokenTextLemmas
 pub mod OperandWorthLemmas
 pub mod OperandTextLemmas

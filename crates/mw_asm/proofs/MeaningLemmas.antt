@@ -10,6 +10,7 @@ use Rattle.mw_tables.specs.Row.{TableRow}
 use Rattle.mw_tables.specs.Layouts.{fields_of, HasOperands}
 use Rattle.mw_tables.specs.Rows.{lines, table, layouts, row_count}
 use Rattle.mw_decode.specs.Decode.{HasForms}
+use Rattle.mw_decode.proofs.Ranges.{table_count}
 use Rattle.mw_asm.specs.declared.mnemonic.Mnemonic.{Mnemonic}
 use Rattle.mw_asm.specs.declared.mnemonic.Pattern.{Pattern}
 use Rattle.mw_asm.specs.declared.mnemonic.Pattern.TheVariants.{Row, Li, Lis, Mr, Nop, Always, Light, Tables}
@@ -63,10 +64,6 @@ fields_count m = length (written_fields m.pattern (fields_at m.row))
 spellings_counted : map (λ (s : Spelling). written_count s.mnemonic) spellings ≡ map (λ (s : Spelling). fields_count s.mnemonic) spellings
 unfolding spellings table layouts lines
 spellings_counted = refl
-
-table_count : length table ≡ row_count
-unfolding table lines
-table_count = refl
 
 -- what the row of a mnemonic has
 pub record MeansRow (mnemonic : Mnemonic) : Type 0 where

@@ -1,7 +1,7 @@
 -- What a name that is a mnemonic means: it is one spelling, and its row has what it needs.
 use Rattle.std.proofs.Common.{◌≡◌, ℕ, zero, suc, ◌+◌, ◌*◌, slice_get, Bool, true, false, not, ◌&&◌, cond, List, [], ◌∷◌, Option, Some, None, map, refl, sym, ap, ◌∙◌}
 use Rattle.std.specs.Prelude.{◌==◌, bytes_eq, option_map, IsSomeAnd}
-use Rattle.std.specs.List.{find}
+use Rattle.std.specs.List.{find, list_all}
 use Rattle.std.proofs.lemmas.Bool.{eq-eqb, and_parts, not-true, both_ways}
 use Rattle.std.proofs.lemmas.Option.{slice_get-map, same_Some, none-some}
 use Rattle.std.proofs.lemmas.Slice.Eq.{bytes_eq-Decides}
@@ -19,6 +19,12 @@ same_at f g xs same place x there =
     ∙ ap (λ l. slice_get l place) same
     ∙ slice_get-map g xs place
     ∙ ap (option_map g) there)
+
+-- what holds of all holds at a place
+pub list_all-at : {X : Type 0} (p : X → Bool) (xs : List X) (place : ℕ) (x : X) → list_all p xs ≡ true → slice_get xs place ≡ Some x → p x ≡ true
+list_all-at p [] place x all there = absurd (none-some x there)
+list_all-at p (y ∷ ys) zero x all there = ap p (sym (same_Some _ _ there)) ∙ (and_parts _ _ all).0
+list_all-at p (y ∷ ys) (suc k) x all there = list_all-at p ys k x (and_parts _ _ all).1 there
 
 -- the first element that passes a test, with its place
 pub record IsFound {X : Type 0} (p : X → Bool) (xs : List X) (x : X) : Type 0 where

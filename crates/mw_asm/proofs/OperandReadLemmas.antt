@@ -21,7 +21,7 @@ use Rattle.mw_asm.specs.Expressions.{kind_at, column_at, read_of, with_addend, e
 use Rattle.mw_asm.specs.Items.{kinds_of, register_of, text_of, register_in, register_or, operand_at, is_mark, with_first, and_behind, operands_at}
 use Rattle.mw_asm.specs.Lines.{label_by, label_of}
 use Rattle.mw_asm.specs.Disassembly.{operand_text, operands_text, behind_name}
-use Rattle.mw_asm.proofs.TokenTextLemmas.{decimal-some}
+use Rattle.mw_asm.proofs.DisassemblyLemmas.{operand-some, behind-some}
 use Rattle.mw_asm.proofs.OperandTextLemmas.{unsigned-text, unsigned-token, register-below, register-unsigned, behind-separated}
 use Rattle.mw_asm.proofs.OperandWorthLemmas.{base-pos}
 use Rattle.mw_asm.proofs.PrintedForms.{token_of, address_of_target, operand_tokens, operand_base, operand_expression, operands_tokens, operands_expressions, is_separated, IsWritable, AreWritable}
@@ -221,27 +221,14 @@ pub operands-read : (items : List Item) (aa : Bool) (at : ℕ) (zs : List ℤ) (
 operands-read items aa at zs before front separated writable =
     read-from items aa at zs (length before) (length front) before (before ++ operands_text items aa at zs) front (front ++ operands_tokens items aa at zs (length before)) separated writable refl refl refl refl
 
--- an operand has a text
-operand-some : (kind : Kind) (aa : Bool) (at : ℕ) (z : ℤ) → IsWritable kind z → 0 < length (operand_text kind aa at z)
-operand-some Register aa at z writable = omega arith
-operand-some Value aa at (pos n) writable = omega (arith, ap length (unsigned-text n), decimal-some n)
-operand-some Value aa at (negsuc n) writable = omega arith
-operand-some Target aa at z writable = omega arith
-operand-some Upper aa at z writable = absurd writable
-
--- so have items
+-- items have a text
 items-some : (item : Item) (items : List Item) (aa : Bool) (at : ℕ) (zs : List ℤ) → AreWritable (kinds_of (item ∷ items)) zs → 0 < length (operands_text (item ∷ items) aa at zs)
 unfolding operands_text
 items-some (Operand kind) items aa at [] writable = absurd writable
-items-some (Operand kind) items aa at (z ∷ zs) writable = omega (arith, length-append (operand_text kind aa at z) (operands_text items aa at zs), operand-some kind aa at z writable.0)
+items-some (Operand kind) items aa at (z ∷ zs) writable = omega (arith, length-append (operand_text kind aa at z) (operands_text items aa at zs), operand-some kind aa at z)
 items-some Comma items aa at zs writable = omega arith
 items-some Open items aa at zs writable = omega arith
 items-some Close items aa at zs writable = omega arith
-
--- a text stands behind a blank
-behind_name-some : (text : List ℕ) → 0 < length text → behind_name text ≡ 32 ∷ text
-behind_name-some [] some = absurd (omega arith)
-behind_name-some (byte ∷ bytes) some = refl
 
 -- operands are read from their tokens behind a name
 pub behind_name-read : (items : List Item) (aa : Bool) (at : ℕ) (zs : List ℤ) (name : List ℕ) (token : Token) → is_separated items ≡ true → AreWritable (kinds_of items) zs
@@ -251,7 +238,7 @@ behind_name-read [] aa at zs name token separated writable = refl
 behind_name-read (item ∷ items) aa at zs name token separated writable =
     let text = operands_text (item ∷ items) aa at zs in
     read-from (item ∷ items) aa at zs (length name + 1) 1 (name ++ 32 ∷ []) (name ++ behind_name text) (token ∷ []) (token ∷ operands_tokens (item ∷ items) aa at zs (length name + 1)) separated writable
-    (ap (λ bytes. name ++ bytes) (behind_name-some text (items-some item items aa at zs writable)) ∙ sym (append_assoc name (32 ∷ []) text)) refl (length-append name (32 ∷ [])) refl
+    (ap (λ bytes. name ++ bytes) (behind-some text (items-some item items aa at zs writable)) ∙ sym (append_assoc name (32 ∷ []) text)) refl (length-append name (32 ∷ [])) refl
 
 -- no `:` stands there
 abbrev no_colon : Option TokenKind → Bool

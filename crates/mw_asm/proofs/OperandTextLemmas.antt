@@ -16,8 +16,10 @@ use Rattle.mw_asm.specs.declared.item.Item.TheVariants.{Operand, Comma, Open, Cl
 use Rattle.mw_asm.specs.declared.item.Kind.{Kind}
 use Rattle.mw_asm.specs.declared.item.Kind.TheVariants.{Register, Value, Target, Upper}
 use Rattle.mw_asm.specs.Items.{kinds_of}
-use Rattle.mw_asm.specs.Disassembly.{short_hex, signed_decimal, operand_text, operands_text, behind_name}
-use Rattle.mw_asm.proofs.TokenTextLemmas.{word-piece, decimal-piece, short_hex-piece, piece-tokens, blank-tokens, comma-tokens, open-tokens, close-tokens, minus-tokens, decimal-some, decimal-short, short_hex-short, decimal-of_word, short_hex-of_word, of_word-no_feed, append-no_feed}
+use Rattle.mw_digits.specs.Digits.{short_hex, signed_decimal}
+use Rattle.mw_digits.proofs.DigitLaws.{decimal-some, decimal-short, short_hex-short}
+use Rattle.mw_asm.specs.Disassembly.{operand_text, operands_text, behind_name}
+use Rattle.mw_asm.proofs.TokenTextLemmas.{word-piece, decimal-piece, short_hex-piece, piece-tokens, blank-tokens, comma-tokens, open-tokens, close-tokens, minus-tokens, decimal-of_word, short_hex-of_word, of_word-no_feed, append-no_feed}
 use Rattle.mw_asm.proofs.OperandWorthLemmas.{target-address-below}
 use Rattle.mw_asm.proofs.PrintedForms.{IsClosed, has_no_feed, token_of, number_tokens, address_of_target, operand_tokens, operands_tokens, is_separated, IsWritable, AreWritable}
 

@@ -22,9 +22,11 @@ use Rattle.mw_asm.specs.Values.{word_bytes, fits_unit, value_by, and_bytes, data
 use Rattle.mw_asm.specs.Assembled.{org_by, behind_bytes, at_address, first_by, second_by, first_line, second_line, image_limit, source_limit, assembled}
 use Rattle.mw_asm.specs.Passes.{start}
 use Rattle.mw_asm.specs.Again.{AssemblesTo}
-use Rattle.mw_asm.specs.Disassembly.{hex, long_statement}
+use Rattle.mw_digits.specs.Digits.{hex}
+use Rattle.mw_digits.proofs.DigitLaws.{decimal-some, decimal-short, length-hex}
+use Rattle.mw_asm.specs.Disassembly.{long_statement}
 use Rattle.mw_asm.proofs.PrintedForms.{token_of, GivesBytes}
-use Rattle.mw_asm.proofs.TokenTextLemmas.{word-piece, decimal-piece, hex-piece, piece-tokens, blank-tokens, decimal-some, decimal-short, length-hex, decimal-of_word, hex-of_word, of_word-no_feed, append-no_feed}
+use Rattle.mw_asm.proofs.TokenTextLemmas.{word-piece, decimal-piece, hex-piece, piece-tokens, blank-tokens, decimal-of_word, hex-of_word, of_word-no_feed, append-no_feed}
 use Rattle.mw_asm.proofs.GivenLinesLemmas.{source_of, given-assembled}
 
 -- a text that is the last token

@@ -1,12 +1,11 @@
 -- Words, numbers and marks as they are printed: each is one token where nothing goes on behind it.
-use Rattle.std.proofs.Common.{◌≡◌, ℕ, zero, suc, ◌+◌, ◌-◌, ◌^◌, ◌<◌, ◌≤◌, ◌==◌, Bool, true, false, not, nat_lt, List, [], ◌∷◌, ◌++◌, length, take, Result, codes, decimal, refl, ap, ◌∙◌, arith}
+use Rattle.std.proofs.Common.{◌≡◌, ℕ, suc, ◌+◌, ◌-◌, ◌^◌, ◌<◌, ◌==◌, Bool, true, false, not, nat_lt, List, [], ◌∷◌, ◌++◌, length, take, Result, codes, decimal, refl, ap, ◌∙◌, arith}
 use Rattle.std.specs.Prelude.{slice_index}
 use Rattle.std.specs.List.{list_all, prefix_len}
 use Rattle.std.specs.Char.{is_ascii_digit, is_ascii_hexdigit}
 use Rattle.std.specs.Str.Parse.{digits_value}
 use Rattle.std.proofs.lemmas.Bool.{and_from, and_parts, cond-true, cond-false, lt-ltb}
 use Rattle.std.proofs.lemmas.Bool.Decides.{nat_tests}
-use Rattle.std.proofs.lemmas.Fmt.{length-decimal-le}
 use Rattle.std.proofs.lemmas.List.{take_at}
 use Rattle.std.proofs.lemmas.List.Folds.{list_all-append}
 use Rattle.mw_text.specs.declared.token.Token.{Token}
@@ -17,9 +16,9 @@ use Rattle.mw_text.specs.declared.piece.Piece.TheVariants.{Blank, Comment, Found
 use Rattle.mw_text.specs.Pieces.{begins_hexadecimal, begins_word, decimal_piece, hexadecimal_piece, is_blank, is_of_word, number_piece, piece_at}
 use Rattle.mw_text.specs.Lines.{in_front, more_of, with_first, tokens_from}
 use Rattle.mw_text.specs.Texts.{is_word}
-use Rattle.mw_asm.specs.Disassembly.{digits_of, hex, short_hex}
+use Rattle.mw_digits.specs.Digits.{digits_of, hex, short_hex}
+use Rattle.mw_digits.proofs.DigitLaws.{hex-hexadecimal, length-hex, value-hex, digits_of-fits, digits_of-some, decimal-digits, value-decimal, decimal-some}
 use Rattle.mw_asm.proofs.PrintedForms.{IsClosed, has_no_feed, token_of}
-use Rattle.mw_asm.proofs.DigitTextLemmas.{hex-hexadecimal, value-hex, digits_of-fits, digits_of-some, digits_of-most, decimal-digits, value-decimal, decimal-nonempty}
 
 -- what passes one test passes a weaker one
 all-weaker : (p q : ℕ → Bool) (text : List ℕ) → ((byte : ℕ) → p byte ≡ true → q byte ≡ true) → list_all p text ≡ true → list_all q text ≡ true
@@ -134,18 +133,12 @@ digits-piece text rest n some all value below closed =
 
 -- a decimal number
 pub decimal-piece : (n : ℕ) (rest : List ℕ) → n < 2 ^ 64 → IsClosed rest → piece_at (decimal n ++ rest) ≡ Found (Number n) (length (decimal n))
-decimal-piece n rest below closed = digits-piece (decimal n) rest n (decimal-nonempty n) (decimal-digits n below) (value-decimal n below) below closed
+decimal-piece n rest below closed = digits-piece (decimal n) rest n (decimal-some n) (decimal-digits n below) (value-decimal n below) below closed
 
 -- what stands where `0x` and a digit do
 piece-hexadecimal : (rest : List ℕ) → is_ascii_hexdigit (slice_index rest 0) ≡ true → piece_at (48 ∷ 120 ∷ rest) ≡ hexadecimal_piece (48 ∷ 120 ∷ rest)
 unfolding piece_at
 piece-hexadecimal rest is = cond-true (is_ascii_hexdigit (slice_index rest 0)) (hexadecimal_piece (48 ∷ 120 ∷ rest)) _ is
-
--- so many hexadecimal digits are so many bytes
-pub length-hex : (k n : ℕ) → length (hex k n) ≡ k
-unfolding hex
-length-hex zero n = refl
-length-hex (suc k) n = ap (λ (size : ℕ). suc size) (length-hex k n)
 
 -- a hexadecimal number of so many digits
 pub hex-piece : (k n : ℕ) (rest : List ℕ) → 0 < k → n < 16 ^ k → n < 2 ^ 64 → IsClosed rest → piece_at ((codes "0x" ++ hex k n) ++ rest) ≡ Found (Number n) (length (codes "0x" ++ hex k n))
@@ -198,20 +191,7 @@ pub minus-tokens : (rest : List ℕ) (place : ℕ) → tokens_from (45 ∷ rest)
 unfolding tokens_from piece_at
 minus-tokens rest place = refl
 
--- how long numbers are
-pub decimal-some : (n : ℕ) → 0 < length (decimal n)
-decimal-some n = decimal-nonempty n
-
-pub decimal-short : (n : ℕ) → n < 2 ^ 64 → length (decimal n) ≤ 20
-decimal-short n below = length-decimal-le 20 n (omega arith) (omega arith) below
-
-pub short_hex-short : (n : ℕ) → length (short_hex n) ≤ 18
-short_hex-short n =
-    let long = length-hex (digits_of 15 n) n in
-    let most = digits_of-most 15 n in
-    omega arith
-
--- their bytes may stand in a word
+-- the bytes of numbers may stand in a word
 pub decimal-of_word : (n : ℕ) → n < 2 ^ 64 → list_all is_of_word (decimal n) ≡ true
 decimal-of_word n below = all-weaker is_ascii_digit is_of_word (decimal n) digit-of_word (decimal-digits n below)
 

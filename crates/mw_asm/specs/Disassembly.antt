@@ -1,7 +1,8 @@
 -- The disassembly of an image: a line for each instruction, with its address, its word or its two words, and its statement as the assembler reads it; and a `.long` line for each word that is none.
-use Rattle.std.specs.Prelude.{ℕ, zero, suc, ◌+◌, ◌*◌, ◌/◌, ◌%◌, ◌^◌, ◌==◌, nat_lt, Bool, true, false, not, ◌&&◌, if◌then◌else◌, List, [], ◌∷◌, ◌++◌, ℤ, pos, ◌+ℤ◌, int_lt, unsigned_abs, Option, Some, None, is_some, length, slice_get, slice_index_or, codes, decimal, flat_map}
+use Rattle.std.specs.Prelude.{ℕ, zero, suc, ◌+◌, ◌*◌, ◌/◌, ◌%◌, ◌==◌, nat_lt, Bool, true, false, not, ◌&&◌, if◌then◌else◌, List, [], ◌∷◌, ◌++◌, ℤ, pos, ◌+ℤ◌, Option, Some, None, is_some, length, slice_get, slice_index_or, codes, flat_map}
 use Rattle.std.specs.Option.{option_map_or}
 use Rattle.std.specs.Int.{w64, cast_unsigned}
+use Rattle.mw_digits.specs.Digits.{hex, short_hex, signed_decimal}
 use Rattle.mw_tables.specs.Row.{TableRow}
 use Rattle.mw_tables.specs.Rows.{table}
 use Rattle.mw_decode.specs.declared.insn.Insn.{Insn}
@@ -15,28 +16,6 @@ use Rattle.mw_asm.specs.declared.item.Item.TheVariants.{Operand, Comma, Open, Cl
 use Rattle.mw_asm.specs.Items.{items_of}
 use Rattle.mw_asm.specs.Mnemonics.{spelled}
 use Rattle.mw_asm.specs.Lines.{shape_at}
-
--- a hexadecimal digit, in lower case
-abbrev pub hex_digit : ℕ → ℕ
-hex_digit n = if nat_lt n 10 then 48 + n else 87 + n
-
--- a number in so many hexadecimal digits
-unfoldable pub hex : ℕ → ℕ → List ℕ
-hex zero n = []
-hex (suc k) n = hex_digit (n / 16 ^ k % 16) ∷ hex k n
-
--- how many hexadecimal digits a number has, of so many at most and one at least
-unfoldable pub digits_of : ℕ → ℕ → ℕ
-digits_of zero n = 1
-digits_of (suc k) n = if nat_lt n (16 ^ suc k) then digits_of k n else suc k + 1
-
--- a number in hexadecimal digits without leading zeros
-abbrev pub short_hex : ℕ → List ℕ
-short_hex n = codes "0x" ++ hex (digits_of 15 n) n
-
--- a number in decimal digits, with its sign where it is negative
-abbrev pub signed_decimal : ℤ → List ℕ
-signed_decimal z = if int_lt z (pos 0) then 45 ∷ decimal (unsigned_abs z) else decimal (unsigned_abs z)
 
 -- an operand: a register as `rN`, a target as its address, anything else as a decimal number
 abbrev pub operand_text : Kind → Bool → ℕ → ℤ → List ℕ

@@ -11,10 +11,10 @@ ghost use Rattle.mw_asm.specs.Assembled.{assembled, code_size, image_limit, sour
 ghost use Rattle.mw_asm.specs.Again.{encoded_image, statements_of, filled_image, AssemblesAgain, AssemblesTo, IsClear, IsClearCode, IsExactIfClear};
 ghost use Rattle.mw_asm.specs.Disassembly.{operand_text, operands_text, behind_name, name_at, statement_text, image_byte, image_word, suffix_in, words_text, line_text, entry_text, long_entry, entry_by, entry_with, entry_at, entries_of, disassembly};
 
-use crate::digits::{add_decimal, add_hex, add_short_hex};
 use crate::item::{Item, Kind, items_of_shape};
 use mw_bits::Bytes;
 use mw_decode::{Decoded, Insn, decode, is_prefix};
+use mw_digits::{add_hex, add_short_hex, add_signed};
 use mw_tables::rows;
 use std::alloc::{AllocError as NoMemory, Global};
 
@@ -87,11 +87,11 @@ fn add_operand(
     match kind {
         Kind::Register => {
             text.add(b"r")?;
-            add_decimal(text, operand)
+            add_signed(text, operand)
         }
         Kind::Target => add_short_hex(text, target(operand, absolute, at)),
-        Kind::Value => add_decimal(text, operand),
-        Kind::Upper => add_decimal(text, operand),
+        Kind::Value => add_signed(text, operand),
+        Kind::Upper => add_signed(text, operand),
     }
 }
 

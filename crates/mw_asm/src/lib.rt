@@ -3,7 +3,6 @@
 
 mod assembler;
 mod data;
-mod digits;
 mod disassembly;
 mod expression;
 mod fault;

@@ -2,7 +2,7 @@
 use Rattle.std.specs.Prelude.{ℕ, ◌≡◌, ◌<◌, ◌≤◌, ◌⊎◌, ◌↔◌, List, ◌++◌, length, take, Option, Some, None, Ok, Err, IsSomeAnd, IsTrue, codes, decimal}
 use Rattle.mw_io.specs.Outside.{Rose, content_of}
 use Rattle.mw_isa.specs.Unbuilt.{first_unbuilt}
-use Rattle.mw_isa.specs.Text.{hex}
+use Rattle.mw_digits.specs.Digits.{hex}
 use Rattle.mw_asm.specs.declared.fault.What.{What}
 use Rattle.mw_asm.specs.declared.fault.Place.{Place}
 use Rattle.mw_asm.specs.Assembled.{assembled}

@@ -4,8 +4,8 @@ ghost use Rattle.mw_cli.specs.Answers.{line_of, place_line};
 ghost use Rattle.mw_cli.specs.declared.refusal.Refusal.TheVariants.{Bad};
 
 use crate::refusal::Refusal;
+use mw_digits::hexadecimal;
 use mw_io::{Sink, write_all};
-use mw_trace::hexadecimal;
 
 /// Writes a piece, and says whether the sink took it whole.
 fn write_piece<S: Sink>(sink: &mut S, piece: &[u8]) -> bool

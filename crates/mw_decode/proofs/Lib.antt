@@ -3,5 +3,5 @@ pub mod InsnLemmas
 pub mod Ranges
 mod EncodeParts
 mod EncodeRows
-mod EncodeBack
+pub mod EncodeBack
 pub mod EncodeLemmas

@@ -48,7 +48,8 @@ in_list : {X : Type 0} (o : Option X) (P : X → Type 0) (xs : List X) (i : ℕ)
 in_list None P xs i e h = absurd h
 in_list (Some x) P xs i e h = slice_get_within xs i x e
 
-table_count : length table ≡ row_count
+-- the table has so many rows
+pub table_count : length table ≡ row_count
 unfolding table lines
 table_count = refl
 

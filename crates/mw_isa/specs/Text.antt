@@ -1,5 +1,5 @@
 -- The text of a run: lines of words, each line ended by a line feed.
-use Rattle.std.specs.Prelude.{ℕ, zero, suc, ◌+◌, ◌-◌, ◌*◌, ◌/◌, ◌%◌, ◌^◌, min, if◌then◌else◌, nat_lt, List, [], ◌∷◌, ◌++◌, take, drop, Option, Some, None, map, codes, decimal, slice_index}
+use Rattle.std.specs.Prelude.{ℕ, ◌+◌, ◌-◌, ◌*◌, ◌/◌, min, List, [], ◌∷◌, ◌++◌, take, drop, Option, Some, None, map, codes, decimal, slice_index}
 use Rattle.std.specs.List.{flat_map, join_with_byte, enumerate_from, range_with_len}
 use Rattle.mw_isa.specs.declared.access.Span.{Span}
 use Rattle.mw_isa.specs.declared.event.Event.{Event}
@@ -7,19 +7,11 @@ use Rattle.mw_isa.specs.declared.event.Event.TheVariants.{Retire, Trap, Irq}
 use Rattle.mw_isa.specs.declared.event.End.{End}
 use Rattle.mw_isa.specs.declared.event.End.TheVariants.{Ran}
 use Rattle.mw_isa.specs.declared.regs.Regs.{Regs}
+use Rattle.mw_digits.specs.Digits.{hex}
 use Rattle.mw_soc.specs.DeviceData.{DeviceData}
 use Rattle.mw_soc.specs.Devices.{dec_of}
 use Rattle.mw_isa.specs.Vectors.{address_of}
 use Rattle.mw_isa.specs.State.{State}
-
--- a hexadecimal digit, in lower case
-abbrev pub hex_digit : ℕ → ℕ
-hex_digit n = if nat_lt n 10 then 48 + n else 87 + n
-
--- a number in so many hexadecimal digits
-unfoldable pub hex : ℕ → ℕ → List ℕ
-hex zero n = []
-hex (suc k) n = hex_digit (n / 16 ^ k % 16) ∷ hex k n
 
 -- words joined by blanks, and a line feed
 unfoldable pub line : List (List ℕ) → List ℕ

@@ -6,6 +6,7 @@ use Rattle.std.proofs.lemmas.Bool.{cond-true, lt-ltb}
 use Rattle.std.proofs.lemmas.List.{append-nil}
 use Rattle.std.proofs.lemmas.List.Elements.{All-head, All-tail}
 use Rattle.std.proofs.lemmas.Slice.Eq.{bytes_eq-Decides}
+use Rattle.mw_digits.proofs.DigitLaws.{value-decimal, value-hex}
 use Rattle.mw_isa.specs.declared.access.Span.{Span}
 use Rattle.mw_isa.specs.declared.event.Event.{Event}
 use Rattle.mw_isa.specs.declared.event.Event.TheVariants.{Retire, Trap, Irq}
@@ -20,7 +21,7 @@ use Rattle.mw_isa.specs.Text.{line, event_words, end_words, state_words, asked_w
 use Rattle.mw_isa.specs.Reading.{same_words, vector_at, guess_event, event_of, words_of, end_by, events_in, end_in, more_events, lines_from, lines_of, events_of, end_of, FitsEvent, FitsEnd, Spells}
 use Rattle.mw_trace.specs.Determined.{TextsSpell, TextsDetermine}
 use Rattle.mw_trace.proofs.PieceLemmas.{AreWords, words_of-join, lines_from-line}
-use Rattle.mw_trace.proofs.NumeralLemmas.{above-hex, above-decimal, value-decimal, value-hex}
+use Rattle.mw_trace.proofs.NumeralLemmas.{above-hex, above-decimal}
 
 -- words are the same as themselves
 same_words-refl : (words : List (List ℕ)) → same_words words words ≡ true

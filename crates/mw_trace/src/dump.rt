@@ -1,6 +1,7 @@
 ghost use Rattle.std.specs.Prelude.{◌≡◌, [], ◌+◌, ◌≤◌, ◌∷◌, ◌++◌, length, codes, IfSome, OnOk};
 ghost use Rattle.std.specs.List.{flat_map};
-ghost use Rattle.mw_isa.specs.Text.{hex, hex_bytes, line, dump_words, asked_words};
+ghost use Rattle.mw_digits.specs.Digits.{hex};
+ghost use Rattle.mw_isa.specs.Text.{hex_bytes, line, dump_words, asked_words};
 
 use crate::words::{add_hex, add_hex_bytes};
 use mw_bits::Bytes;

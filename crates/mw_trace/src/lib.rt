@@ -12,4 +12,3 @@ mod words;
 
 pub use laws::texts_spell;
 pub use text::print;
-pub use words::hexadecimal;

@@ -1,11 +1,13 @@
 ghost use Rattle.std.specs.Prelude.{◌≡◌, [], ◌∷◌, ◌++◌, decimal, map, All, OnOk};
 ghost use Rattle.std.specs.List.{flat_map, join_with_byte};
 ghost use Rattle.std.specs.Option.{option_map_or};
-ghost use Rattle.mw_isa.specs.Text.{hex, line, event_words, end_words};
+ghost use Rattle.mw_digits.specs.Digits.{hex};
+ghost use Rattle.mw_isa.specs.Text.{line, event_words, end_words};
 ghost use Rattle.mw_isa.specs.Reading.{FitsEvent, FitsEnd};
 
-use crate::words::{add_decimal, add_hex};
+use crate::words::add_hex;
 use mw_bits::Bytes;
+use mw_digits::add_decimal;
 use mw_isa::{End, Event};
 use std::alloc::AllocError as NoMemory;
 

@@ -3,8 +3,9 @@ ghost use Rattle.std.specs.List.{flat_map, enumerate_from};
 ghost use Rattle.mw_isa.specs.State.{seen};
 ghost use Rattle.mw_isa.specs.Text.{line, named, gpr_words, program_words, interrupt_words, software_words, special_words, sent_word, uart_words, state_words};
 
-use crate::words::{add_all_bytes, add_decimal, add_hex};
+use crate::words::{add_all_bytes, add_hex};
 use mw_bits::Bytes;
+use mw_digits::add_decimal;
 use mw_isa::{Regs, State};
 use mw_soc::Devices;
 use std::alloc::AllocError as NoMemory;

@@ -1,9 +1,10 @@
-ghost use Rattle.std.specs.Prelude.{◌≡◌, ◌<◌, ◌≤◌, ◌*◌, ◌∷◌, ◌++◌, length, decimal, OnOk};
-ghost use Rattle.mw_isa.specs.Text.{hex_digit, hex, hex_bytes};
+ghost use Rattle.std.specs.Prelude.{◌≡◌, ◌≤◌, ◌*◌, ◌∷◌, ◌++◌, length, OnOk};
+ghost use Rattle.mw_digits.specs.Digits.{hex};
+ghost use Rattle.mw_isa.specs.Text.{hex_bytes};
 
 use hex::encode_to_slice;
-use itoa::Buffer;
 use mw_bits::Bytes;
+use mw_digits::write_hex;
 use std::alloc::AllocError as NoMemory;
 
 /// The most hexadecimal digits that a number of 64 bits has.
@@ -11,38 +12,6 @@ const MOST_DIGITS: usize = 16;
 
 /// The most bytes of a dump that stand in one word.
 const MOST_BYTES: usize = 32;
-
-/// The hexadecimal digit of a number below 16, in lower case.
-fn digit_of(value: u8) -> u8
-    requires { value < 16 }
-    ensures { result ≡ hex_digit value }
-{
-    if value < 10 {
-        b'0' + value
-    } else {
-        b'a' + (value - 10)
-    }
-}
-
-/// Writes the number in hexadecimal digits, as many as there is room for.
-fn write_hex(digits: &mut [u8], number: u64)
-    ensures { digits.new ≡ hex (length digits.old) number }
-{
-    let mut rest = number;
-    for place in (0..digits.len()).rev() {
-        digits[place] = digit_of((rest % 16) as u8);
-        rest /= 16;
-    }
-}
-
-/// The sixteen hexadecimal digits of a number of 64 bits, in lower case.
-pub fn hexadecimal(number: u64) -> [u8; MOST_DIGITS]
-    ensures { result ≡ hex 16 number }
-{
-    let mut digits = [0; MOST_DIGITS];
-    write_hex(&mut digits, number);
-    digits
-}
 
 /// Appends a blank and the number in so many hexadecimal digits.
 pub fn add_hex(text: &mut Bytes, digits: usize, number: u64) -> Result<(), NoMemory>
@@ -93,11 +62,4 @@ pub fn add_all_bytes(text: &mut Bytes, bytes: &[u8]) -> Result<(), NoMemory>
         add_byte(text, *byte)?;
     }
     Ok(())
-}
-
-/// Appends the number in decimal digits.
-pub fn add_decimal(text: &mut Bytes, number: u64) -> Result<(), NoMemory>
-    ensures { OnOk result (text.new ≡ text.old ++ decimal number) }
-{
-    text.add(Buffer::new().format(number).as_bytes())
 }

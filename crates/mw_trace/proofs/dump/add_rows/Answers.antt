@@ -3,7 +3,8 @@ use Rattle.std.specs.List.{flat_map, range_with_len}
 use Rattle.std.proofs.lemmas.List.{flat_map_more}
 use Rattle.std.proofs.lemmas.List.FromFn.{map-range_with_len_more}
 use Rattle.mw_isa.specs.declared.access.Span.{Span}
-use Rattle.mw_isa.specs.Text.{hex, line, hex_bytes, row_words, dump_words}
+use Rattle.mw_digits.specs.Digits.{hex}
+use Rattle.mw_isa.specs.Text.{line, hex_bytes, row_words, dump_words}
 use Rattle.mw_trace.proofs.dump.add_rows.Goals as goal
 
 -- what is written by one line more

@@ -1,6 +1,6 @@
 use Rattle.std.proofs.Common.{◌≡◌, ◌++◌, drop}
 use Rattle.std.specs.List.{flat_map}
-use Rattle.mw_isa.specs.Text.{hex}
+use Rattle.mw_digits.specs.Digits.{hex}
 use Rattle.mw_trace.proofs.words.add_all_bytes.Given as goal
 
 -- what is written, with the digits of the bytes that are left, is the whole

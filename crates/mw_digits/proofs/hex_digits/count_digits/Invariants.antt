@@ -1,6 +1,6 @@
 use Rattle.std.proofs.Common.{◌≡◌, ◌^◌, ◌≤◌}
-use Rattle.mw_asm.specs.Disassembly.{digits_of}
-use Rattle.mw_asm.proofs.digits.count_digits.Given as goal
+use Rattle.mw_digits.specs.Digits.{digits_of}
+use Rattle.mw_digits.proofs.hex_digits.count_digits.Given as goal
 
 abbrev pub invariant-loop-most : goal.invariant-loop-most
 invariant-loop-most l = record {

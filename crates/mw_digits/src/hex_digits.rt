@@ -1,7 +1,6 @@
 ghost use Rattle.std.specs.Prelude.{◌≡◌, ◌<◌, ◌≤◌, ◌++◌, length, OnOk};
-ghost use Rattle.mw_asm.specs.Disassembly.{hex_digit, hex, digits_of, short_hex, signed_decimal};
+ghost use Rattle.mw_digits.specs.Digits.{hex_digit, hex, digits_of, short_hex};
 
-use itoa::Buffer;
 use mw_bits::Bytes;
 use std::alloc::AllocError as NoMemory;
 
@@ -9,7 +8,7 @@ use std::alloc::AllocError as NoMemory;
 const MOST_DIGITS: usize = 16;
 
 /// The hexadecimal digit of a number below 16, in lower case.
-fn digit(value: u8) -> u8
+fn digit_of(value: u8) -> u8
     requires { value < 16 }
     ensures { result ≡ hex_digit value }
 {
@@ -20,19 +19,30 @@ fn digit(value: u8) -> u8
     }
 }
 
-/// Writes the number in hexadecimal digits, as many as there is room for.
-fn write_hex(digits: &mut [u8], number: u64)
+/// Writes the number in hexadecimal digits, as many as the slice has bytes: its lowest ones, the highest of
+/// them first, in lower case, with leading zeros.
+pub fn write_hex(digits: &mut [u8], number: u64)
     ensures { digits.new ≡ hex (length digits.old) number }
 {
     let mut rest = number;
     for place in (0..digits.len()).rev() {
-        digits[place] = digit((rest % 16) as u8);
+        digits[place] = digit_of((rest % 16) as u8);
         rest /= 16;
     }
 }
 
-/// Appends the number in so many hexadecimal digits, at most 16. The only error is want of memory.
-pub(crate) fn add_hex(text: &mut Bytes, digits: usize, number: u64) -> Result<(), NoMemory>
+/// The sixteen hexadecimal digits of a number of 64 bits, in lower case.
+pub fn hexadecimal(number: u64) -> [u8; MOST_DIGITS]
+    ensures { result ≡ hex 16 number }
+{
+    let mut digits = [0; MOST_DIGITS];
+    write_hex(&mut digits, number);
+    digits
+}
+
+/// Appends the number in so many hexadecimal digits, at most 16: its lowest ones, with leading zeros. The
+/// only error is want of memory.
+pub fn add_hex(text: &mut Bytes, digits: usize, number: u64) -> Result<(), NoMemory>
     requires { digits ≤ 16 }
     ensures { OnOk result (text.new ≡ text.old ++ hex digits number) }
 {
@@ -57,17 +67,9 @@ fn count_digits(number: u64) -> usize
 
 /// Appends the number in hexadecimal digits behind `0x`, without leading zeros. The only error is want of
 /// memory.
-pub(crate) fn add_short_hex(text: &mut Bytes, number: u64) -> Result<(), NoMemory>
+pub fn add_short_hex(text: &mut Bytes, number: u64) -> Result<(), NoMemory>
     ensures { OnOk result (text.new ≡ text.old ++ short_hex number) }
 {
     text.add(b"0x")?;
     add_hex(text, count_digits(number), number)
-}
-
-/// Appends the number in decimal digits, with its sign where it is negative. The only error is want of
-/// memory.
-pub(crate) fn add_decimal(text: &mut Bytes, number: i64) -> Result<(), NoMemory>
-    ensures { OnOk result (text.new ≡ text.old ++ signed_decimal number) }
-{
-    text.add(Buffer::new().format(number).as_bytes())
 }

@@ -5,7 +5,7 @@ use Rattle.std.proofs.Math.Nat.{div-div-eq-div-mul, div-one, pow-suc}
 use Rattle.std.proofs.Math.ListN.{length-set}
 use Rattle.std.proofs.Math.Seq.{drop-length}
 use Rattle.std.proofs.lemmas.List.{drop-set}
-use Rattle.mw_asm.specs.Disassembly.{hex, hex_digit, digits_of}
+use Rattle.mw_digits.specs.Digits.{hex, hex_digit, digits_of}
 
 -- the digits from a place on are written, and the rest is the number without them
 pub record AreWritten (digits : List ℕ) (number rest place : ℕ) : Type 0 where

@@ -1,6 +1,6 @@
 use Rattle.std.proofs.Common.{arith}
-use Rattle.mw_trace.proofs.HexLemmas.{written-none, written-more}
-use Rattle.mw_trace.proofs.words.write_hex.Goals as goal
+use Rattle.mw_digits.proofs.WriteLemmas.{written-none, written-more}
+use Rattle.mw_digits.proofs.hex_digits.write_hex.Goals as goal
 
 pub loop-place-init : goal.loop-place-init
 loop-place-init c = written-none c.args.digits.now c.args.number

@@ -1,8 +1,8 @@
 use Rattle.std.proofs.Common.{ap, sym, ◌∙◌, arith}
 use Rattle.std.specs.Prelude.{◌/◌, ◌^◌, ◌<◌, ℕ}
-use Rattle.mw_asm.proofs.DisassemblyDigitLemmas.{power-before, digits-less, digits-all}
-use Rattle.mw_asm.proofs.digits.count_digits.Goals as goal
-use Rattle.mw_asm.proofs.digits.count_digits.Goals.{then-loop-most-test+else-number-least, else-loop-most-test}
+use Rattle.mw_digits.proofs.WriteLemmas.{power-before, digits-less, digits-all}
+use Rattle.mw_digits.proofs.hex_digits.count_digits.Goals as goal
+use Rattle.mw_digits.proofs.hex_digits.count_digits.Goals.{then-loop-most-test+else-number-least, else-loop-most-test}
 
 pub loop-most-preserved : goal.loop-most-preserved
 loop-most-preserved c =

@@ -1,5 +1,6 @@
--- Digits as they are printed: which bytes they are, how many a number has, and what they are read as.
+-- Laws of numbers as text, for the crates above: which bytes digits are, how many a number has, and what they are read as.
 use Rattle.std.proofs.Common.{◌≡◌, ℕ, zero, suc, ◌+◌, ◌*◌, ◌/◌, ◌%◌, ◌^◌, ◌<◌, ◌≤◌, ◌==◌, Bool, true, false, cond, nat_lt, List, [], ◌∷◌, length, decimal, refl, sym, ap, ◌∙◌, subst, arith, mod-lt}
+use Rattle.std.specs.Prelude.{ℤ, pos, int_lt, unsigned_abs}
 use Rattle.std.specs.List.{list_all}
 use Rattle.std.specs.Char.{digit_value, is_ascii_digit, is_ascii_hexdigit}
 use Rattle.std.specs.Str.Parse.{AllDigits, digits_value, digits_value_after}
@@ -8,12 +9,12 @@ use Rattle.std.proofs.Math.Arith.{mod-mul}
 use Rattle.std.proofs.Math.Nat.{mod-eq_of_lt, pow-succ'}
 use Rattle.std.proofs.lemmas.Bool.{and_from, cond_both, ltb-true}
 use Rattle.std.proofs.lemmas.Bool.Decides.{nat_tests}
-use Rattle.std.proofs.lemmas.Fmt.{decimal_is_IsNumeral}
+use Rattle.std.proofs.lemmas.Fmt.{decimal_is_IsNumeral, length-decimal-le}
 use Rattle.std.proofs.lemmas.Str.{digit_value-digit_char}
 use Rattle.std.proofs.lemmas.Str.Parse.{digit_from_value}
-use Rattle.mw_asm.specs.Disassembly.{digits_of, hex, hex_digit}
+use Rattle.mw_digits.specs.Digits.{digits_of, hex, hex_digit, short_hex, signed_decimal}
 
--- a hexadecimal digit is one
+-- a digit in lower case is a hexadecimal digit
 digit-hexadecimal : (d : ℕ) → d < 16 → is_ascii_hexdigit (hex_digit d) ≡ true
 digit-hexadecimal d small = grind (arith, nat_tests)
 
@@ -25,6 +26,12 @@ hex-hexadecimal (suc k) n =
     let d = n / 16 ^ k % 16 in
     let small : d < 16 = mod-lt (n / 16 ^ k) (omega arith) in
     and_from (is_ascii_hexdigit (hex_digit d)) (list_all is_ascii_hexdigit (hex k n)) (digit-hexadecimal d small) (hex-hexadecimal k n)
+
+-- so many hexadecimal digits are so many bytes
+pub length-hex : (k n : ℕ) → length (hex k n) ≡ k
+unfolding hex
+length-hex zero n = refl
+length-hex (suc k) n = ap (λ (size : ℕ). suc size) (length-hex k n)
 
 -- a power of 16 isn't 0
 positive : (k : ℕ) → 0 < 16 ^ k
@@ -86,7 +93,14 @@ digits_of-most (suc k) n =
     let others = digits_of-most k n in
     cond_both (nat_lt n (16 ^ suc k)) (digits_of k n) (suc k + 1) (λ (j : ℕ). j ≤ suc k + 1) (λ is. omega arith) (λ is. omega arith)
 
--- decimal digits are such bytes
+-- a number without leading zeros has 18 bytes at most
+pub short_hex-short : (n : ℕ) → length (short_hex n) ≤ 18
+short_hex-short n =
+    let long = length-hex (digits_of 15 n) n in
+    let most = digits_of-most 15 n in
+    omega arith
+
+-- digits of base 10 are decimal digits
 digits-ascii : (ds : List ℕ) → AllDigits 10 ds → list_all is_ascii_digit ds ≡ true
 digits-ascii [] are = refl
 digits-ascii (d ∷ ds) are =
@@ -95,11 +109,11 @@ digits-ascii (d ∷ ds) are =
     let high : d ≤ 57 = range.1 in
     and_from (is_ascii_digit d) (list_all is_ascii_digit ds) (grind (arith, nat_tests)) (digits-ascii ds are.1)
 
--- a decimal number's bytes are digits
+-- a number's decimal digits are such digits
 pub decimal-digits : (n : ℕ) → n < 2 ^ 64 → list_all is_ascii_digit (decimal n) ≡ true
 decimal-digits n below = digits-ascii (decimal n) (decimal_is_IsNumeral n below).0.1
 
--- the number that they are read as
+-- the number that decimal digits are read as
 pub value-decimal : (n : ℕ) → n < 2 ^ 64 → digits_value 10 (decimal n) ≡ n
 value-decimal n below = (decimal_is_IsNumeral n below).1
 
@@ -115,8 +129,16 @@ digits_onto-some (suc k) n byte bytes =
     either-some (n / 10 == 0) d (byte ∷ bytes) (digits_onto k 10 false (n / 10) (d ∷ byte ∷ bytes)) (digits_onto-some k (n / 10) d (byte ∷ bytes))
 
 -- a decimal number has a digit
-pub decimal-nonempty : (n : ℕ) → 0 < length (decimal n)
+pub decimal-some : (n : ℕ) → 0 < length (decimal n)
 unfolding digits
-decimal-nonempty n =
+decimal-some n =
     let d = digit_glyph false (n % 10) in
     either-some (n / 10 == 0) d [] (digits_onto 63 10 false (n / 10) (d ∷ [])) (digits_onto-some 63 (n / 10) d [])
+
+-- and 20 at most
+pub decimal-short : (n : ℕ) → n < 2 ^ 64 → length (decimal n) ≤ 20
+decimal-short n below = length-decimal-le 20 n (omega arith) (omega arith) below
+
+-- a number with a sign has a byte
+pub signed-some : (z : ℤ) → 0 < length (signed_decimal z)
+signed-some z = either-some (int_lt z (pos 0)) 45 (decimal (unsigned_abs z)) (decimal (unsigned_abs z)) (decimal-some (unsigned_abs z))

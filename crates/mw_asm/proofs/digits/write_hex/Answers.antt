@@ -1,9 +1,0 @@
-use Rattle.std.proofs.Common.{arith}
-use Rattle.mw_asm.proofs.DisassemblyDigitLemmas.{written-none, written-more}
-use Rattle.mw_asm.proofs.digits.write_hex.Goals as goal
-
-pub loop-place-init : goal.loop-place-init
-loop-place-init c = written-none c.args.digits.now c.args.number
-
-pub loop-place-preserved : goal.loop-place-preserved
-loop-place-preserved c = written-more c.loop-place.digits c.args.number c.loop-place.rest c.loop-place.place _ (omega arith) (omega arith) c.digit.ensures c.loop-place.invariant
