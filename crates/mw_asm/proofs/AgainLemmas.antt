@@ -15,14 +15,14 @@ use Rattle.mw_tables.specs.declared.layout.Layout.{Layout}
 use Rattle.mw_tables.specs.Row.{TableRow}
 use Rattle.mw_tables.specs.Rows.{table, layouts}
 use Rattle.mw_tables.specs.Layouts.{fields_of, HasOperands}
-use Rattle.mw_asm.specs.declared.expression.Expression.{Expression}
-use Rattle.mw_asm.specs.declared.item.Item.{Item}
-use Rattle.mw_asm.specs.declared.mnemonic.Mnemonic.{Mnemonic}
-use Rattle.mw_asm.specs.declared.statement.Line.{Line}
-use Rattle.mw_asm.specs.declared.statement.Statement.TheVariants.{Instruction}
-use Rattle.mw_asm.specs.Items.{items_of, kinds_of, pattern_items, text_of, operands_at}
-use Rattle.mw_asm.specs.Lines.{unit_of, shape_at, label_of, or_operand, labelled, line_by, line_in, line_of}
-use Rattle.mw_asm.specs.Mnemonics.{mnemonic_of}
+use Rattle.mw_syntax.specs.declared.expression.Expression.{Expression}
+use Rattle.mw_syntax.specs.declared.item.Item.{Item}
+use Rattle.mw_syntax.specs.declared.mnemonic.Mnemonic.{Mnemonic}
+use Rattle.mw_syntax.specs.declared.statement.Line.{Line}
+use Rattle.mw_syntax.specs.declared.statement.Statement.TheVariants.{Instruction}
+use Rattle.mw_syntax.specs.Items.{items_of, kinds_of, pattern_items, text_of, operands_at}
+use Rattle.mw_syntax.specs.Lines.{unit_of, shape_at, label_of, or_operand, labelled, line_by, line_in, line_of}
+use Rattle.mw_syntax.specs.Mnemonics.{mnemonic_of}
 use Rattle.mw_asm.specs.Values.{fields_at, instruction_of, code_bytes}
 use Rattle.mw_asm.specs.Assembled.{code_size, image_limit, first_line, first_by, second_by, second_line}
 use Rattle.mw_asm.specs.Disassembly.{operands_text, behind_name, statement_text}

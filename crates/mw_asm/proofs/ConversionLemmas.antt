@@ -11,9 +11,9 @@ use Rattle.mw_tables.specs.declared.layout.Field.{Field}
 use Rattle.mw_tables.specs.Layouts.{InRange, is_readable, width_of, operand_from, bits_from}
 use Rattle.mw_tables.proofs.FieldLaws.{InRange-bits, bits-InRange, is_readable-narrow, operand_from-unsigned}
 use Rattle.mw_tables.proofs.RangeLaws.{InRange-signed}
-use Rattle.mw_asm.specs.declared.expression.Base.{Base}
-use Rattle.mw_asm.specs.declared.expression.Base.TheVariants.{Number, Negative, Name, Here}
-use Rattle.mw_asm.specs.Bounds.{IsBase}
+use Rattle.mw_syntax.specs.declared.expression.Base.{Base}
+use Rattle.mw_syntax.specs.declared.expression.Base.TheVariants.{Number, Negative, Name, Here}
+use Rattle.mw_syntax.specs.Bounds.{IsBase}
 use Rattle.mw_asm.specs.Values.{fits_field, if_fits, label_column}
 
 -- a negative number in 64 bits

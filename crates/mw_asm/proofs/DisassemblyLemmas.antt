@@ -4,11 +4,11 @@ use Rattle.std.proofs.lemmas.List.{append-nil, drop_more, drop_all}
 use Rattle.std.specs.Prelude.{ℤ, flat_map, is_some}
 use Rattle.std.proofs.Math.ListN.{length-append}
 use Rattle.mw_digits.proofs.DigitLaws.{signed-some}
-use Rattle.mw_asm.specs.declared.item.Kind.{Kind}
-use Rattle.mw_asm.specs.declared.item.Kind.TheVariants.{Register, Value, Target, Upper}
-use Rattle.mw_asm.specs.declared.item.Item.{Item}
-use Rattle.mw_asm.specs.declared.item.Item.TheVariants.{Operand, Comma, Open, Close}
-use Rattle.mw_asm.proofs.ReadingLemmas.{eqb-other}
+use Rattle.mw_syntax.specs.declared.item.Kind.{Kind}
+use Rattle.mw_syntax.specs.declared.item.Kind.TheVariants.{Register, Value, Target, Upper}
+use Rattle.mw_syntax.specs.declared.item.Item.{Item}
+use Rattle.mw_syntax.specs.declared.item.Item.TheVariants.{Operand, Comma, Open, Close}
+use Rattle.mw_syntax.proofs.ReadingLemmas.{eqb-other}
 use Rattle.mw_asm.specs.Disassembly.{operand_text, operands_text, behind_name, entry_text, entry_at, entries_from, word_count, disassembly}
 
 -- an operand has a byte

@@ -8,7 +8,7 @@ use Rattle.std.proofs.lemmas.List.{append-nil}
 use Rattle.mw_tables.specs.declared.row.PrefixKind.{PrefixKind}
 use Rattle.mw_tables.specs.declared.row.PrefixKind.TheVariants.{Plain, Mls, Eight, Nop}
 use Rattle.mw_tables.specs.Row.{TableRow}
-use Rattle.mw_tables.specs.Rows.{table, layouts}
+use Rattle.mw_tables.specs.Rows.{table}
 use Rattle.mw_tables.specs.Matching.{kind_number, matches, row_place}
 use Rattle.mw_tables.proofs.Places.{row_place-MatchesAt}
 use Rattle.mw_decode.specs.declared.insn.Insn.{Insn}

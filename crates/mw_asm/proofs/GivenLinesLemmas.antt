@@ -4,9 +4,9 @@ use Rattle.std.specs.Prelude.{⊤, nat_lt}
 use Rattle.std.specs.List.{concat, list_all, onto_first}
 use Rattle.std.proofs.lemmas.Bool.{and_parts, not-true, cond-false, le-ltb}
 use Rattle.std.proofs.lemmas.List.Splits.{slice_split-cons_yes, slice_split-cons_no}
-use Rattle.mw_asm.specs.declared.fault.Refusal.{Refusal}
+use Rattle.mw_syntax.specs.declared.fault.Refusal.{Refusal}
 use Rattle.mw_asm.specs.Assembled.{Pass, lines_of, source_limit, first_line, second_line, and_then, first_pass, in_front, second_pass, both_passes, place_past, assembled}
-use Rattle.mw_asm.specs.Lines.{line_of}
+use Rattle.mw_syntax.specs.Lines.{line_of}
 use Rattle.mw_asm.specs.Passes.{start}
 use Rattle.mw_text.specs.Lines.{tokens_from}
 use Rattle.mw_asm.proofs.CutLemmas.{is_feed}

@@ -4,10 +4,10 @@ use Rattle.std.specs.Prelude.{reverse, replicate}
 use Rattle.std.specs.Int.{w32, w64, to_le_bytes, to_be_bytes}
 use Rattle.std.specs.Hash.{le_bytes}
 use Rattle.std.proofs.lemmas.List.{append-nil, at_drop_all, replicate-append-replicate}
-use Rattle.mw_asm.specs.declared.expression.Expression.{Expression}
-use Rattle.mw_asm.specs.declared.fault.Refusal.{Refusal}
-use Rattle.mw_asm.specs.declared.statement.Unit.{Unit as DataUnit}
-use Rattle.mw_asm.specs.declared.statement.Unit.TheVariants.{Byte, Long, Quad, BigQuad}
+use Rattle.mw_syntax.specs.declared.expression.Expression.{Expression}
+use Rattle.mw_syntax.specs.declared.fault.Refusal.{Refusal}
+use Rattle.mw_syntax.specs.declared.statement.Unit.{Unit as DataUnit}
+use Rattle.mw_syntax.specs.declared.statement.Unit.TheVariants.{Byte, Long, Quad, BigQuad}
 use Rattle.mw_asm.specs.Values.{Placed, value_of, value_by, unit_size, unit_bytes, and_bytes, data_bytes}
 use Rattle.mw_asm.proofs.InstructionLemmas.{drop_at}
 

@@ -14,18 +14,18 @@ use Rattle.mw_decode.specs.Decode.{IsInsn}
 use Rattle.mw_tables.specs.declared.row.Shape.{Shape}
 use Rattle.mw_tables.proofs.FieldLaws.{HasOperands-length}
 use Rattle.mw_tables.specs.declared.layout.Field.{Field}
-use Rattle.mw_asm.specs.declared.expression.Expression.{Expression}
+use Rattle.mw_syntax.specs.declared.expression.Expression.{Expression}
 use Rattle.mw_tables.specs.Layouts.{is_readable, HasOperands}
-use Rattle.mw_asm.specs.declared.mnemonic.Pattern.{Pattern}
-use Rattle.mw_asm.specs.declared.mnemonic.Pattern.TheVariants.{Row, Li, Lis, Mr, Nop, Always, Light, Tables}
-use Rattle.mw_asm.specs.declared.fault.Refusal.{Refusal}
-use Rattle.mw_asm.specs.declared.item.Kind.{Kind}
-use Rattle.mw_asm.specs.declared.mnemonic.Mnemonic.{Mnemonic}
-use Rattle.mw_asm.specs.Items.{kinds_of, pattern_items}
-use Rattle.mw_asm.specs.Lines.{shape_at}
+use Rattle.mw_syntax.specs.declared.mnemonic.Pattern.{Pattern}
+use Rattle.mw_syntax.specs.declared.mnemonic.Pattern.TheVariants.{Row, Li, Lis, Mr, Nop, Always, Light, Tables}
+use Rattle.mw_syntax.specs.declared.fault.Refusal.{Refusal}
+use Rattle.mw_syntax.specs.declared.item.Kind.{Kind}
+use Rattle.mw_syntax.specs.declared.mnemonic.Mnemonic.{Mnemonic}
+use Rattle.mw_syntax.specs.Items.{kinds_of, pattern_items}
+use Rattle.mw_syntax.specs.Lines.{shape_at}
 use Rattle.mw_asm.specs.Values.{Placed, value_of, operand_by, and_operands, operands_of, written_fields, fields_at, insn_of, word_bytes, code_bytes}
 use Rattle.mw_asm.specs.Sizes.{IsWritten}
-use Rattle.mw_asm.proofs.MnemonicLemmas.{list_all-at}
+use Rattle.mw_syntax.proofs.MnemonicLemmas.{list_all-at}
 use Rattle.mw_asm.proofs.MeaningLemmas.{MeansRow, MeansRow-forms, MeansRow-laid}
 use Rattle.mw_asm.proofs.OperandLemmas.{operands_of-HasOperands}
 

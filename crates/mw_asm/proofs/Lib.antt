@@ -1,11 +1,5 @@
-pub mod ReadingLemmas
-pub mod ValuesLemmas
-pub mod LineLemmas
-pub mod ItemLemmas
-pub mod MnemonicLemmas
 pub mod MeaningLemmas
 pub mod OperandLemmas
-mod IndexLemmas
 pub mod LabelLemmas
 pub mod ConversionLemmas
 pub mod InstructionLemmas

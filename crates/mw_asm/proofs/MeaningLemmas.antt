@@ -11,14 +11,14 @@ use Rattle.mw_tables.specs.Layouts.{fields_of, HasOperands}
 use Rattle.mw_tables.specs.Rows.{lines, table, layouts, row_count}
 use Rattle.mw_decode.specs.Decode.{HasForms}
 use Rattle.mw_decode.proofs.Ranges.{table_count}
-use Rattle.mw_asm.specs.declared.mnemonic.Mnemonic.{Mnemonic}
-use Rattle.mw_asm.specs.declared.mnemonic.Pattern.{Pattern}
-use Rattle.mw_asm.specs.declared.mnemonic.Pattern.TheVariants.{Row, Li, Lis, Mr, Nop, Always, Light, Tables}
-use Rattle.mw_asm.specs.Items.{kinds_of, pattern_items}
-use Rattle.mw_asm.specs.Lines.{shape_at}
-use Rattle.mw_asm.specs.Mnemonics.{Spelling, spellings, mnemonic_of}
+use Rattle.mw_syntax.specs.declared.mnemonic.Mnemonic.{Mnemonic}
+use Rattle.mw_syntax.specs.declared.mnemonic.Pattern.{Pattern}
+use Rattle.mw_syntax.specs.declared.mnemonic.Pattern.TheVariants.{Row, Li, Lis, Mr, Nop, Always, Light, Tables}
+use Rattle.mw_syntax.specs.Items.{kinds_of, pattern_items}
+use Rattle.mw_syntax.specs.Lines.{shape_at}
+use Rattle.mw_syntax.specs.Mnemonics.{Spelling, spellings, mnemonic_of}
 use Rattle.mw_asm.specs.Values.{written_fields, filled, insn_of, fields_at}
-use Rattle.mw_asm.proofs.MnemonicLemmas.{same_at, mnemonic_of-IsSpelling}
+use Rattle.mw_syntax.proofs.MnemonicLemmas.{same_at, mnemonic_of-IsSpelling}
 
 -- the first, where it is chosen, exists
 abbrev exists_if : Bool → Bool → Bool

@@ -16,13 +16,13 @@ use Rattle.mw_tables.specs.Layouts.{fields_of, shape_of, HasOperands}
 use Rattle.mw_tables.proofs.Places.{row-layout}
 use Rattle.mw_decode.specs.declared.insn.Insn.{Insn}
 use Rattle.mw_decode.specs.Decode.{IsInsn, HasForms}
-use Rattle.mw_asm.specs.declared.item.Item.{Item}
-use Rattle.mw_asm.specs.Items.{items_of, kinds_of}
-use Rattle.mw_asm.specs.Lines.{unit_of, shape_at}
-use Rattle.mw_asm.specs.Mnemonics.{Spelling, choices, spelled, row_spellings, spellings_from, extended_spellings, spellings, mnemonic_of}
+use Rattle.mw_syntax.specs.declared.item.Item.{Item}
+use Rattle.mw_syntax.specs.Items.{items_of, kinds_of}
+use Rattle.mw_syntax.specs.Lines.{unit_of, shape_at}
+use Rattle.mw_syntax.specs.Mnemonics.{Spelling, choices, spelled, row_spellings, spellings_from, extended_spellings, spellings, mnemonic_of}
 use Rattle.mw_asm.specs.Values.{fields_at}
 use Rattle.mw_asm.specs.Disassembly.{name_at}
-use Rattle.mw_asm.proofs.MnemonicLemmas.{same_at, find-IsFound, spellings-distinct}
+use Rattle.mw_syntax.proofs.MnemonicLemmas.{same_at, find-IsFound, spellings-distinct}
 use Rattle.mw_asm.proofs.PrintedForms.{is_separated, hold_kinds}
 
 -- the spelling of an instruction's name

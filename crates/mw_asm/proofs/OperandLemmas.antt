@@ -6,15 +6,15 @@ use Rattle.std.proofs.lemmas.Nat.{mod_below, pow_pos}
 use Rattle.std.proofs.lemmas.Option.{cond_some, none-some}
 use Rattle.mw_tables.specs.declared.layout.Field.{Field}
 use Rattle.mw_tables.specs.Layouts.{width_of, bits_from, InRange, HasOperands}
-use Rattle.mw_asm.specs.declared.expression.Expression.{Expression}
-use Rattle.mw_asm.specs.declared.fault.Refusal.{Refusal}
-use Rattle.mw_asm.specs.declared.item.Kind.{Kind}
-use Rattle.mw_asm.specs.declared.expression.Read.{Read}
-use Rattle.mw_asm.specs.declared.item.Item.{Item}
-use Rattle.mw_asm.specs.declared.item.Item.TheVariants.{Operand, Comma, Open, Close}
+use Rattle.mw_syntax.specs.declared.expression.Expression.{Expression}
+use Rattle.mw_syntax.specs.declared.fault.Refusal.{Refusal}
+use Rattle.mw_syntax.specs.declared.item.Kind.{Kind}
+use Rattle.mw_syntax.specs.declared.expression.Read.{Read}
+use Rattle.mw_syntax.specs.declared.item.Item.{Item}
+use Rattle.mw_syntax.specs.declared.item.Item.TheVariants.{Operand, Comma, Open, Close}
 use Rattle.mw_text.specs.declared.token.Token.{Token}
-use Rattle.mw_asm.specs.Expressions.{kind_at}
-use Rattle.mw_asm.specs.Items.{kinds_of, operand_at, is_mark, with_first, and_behind, operands_at}
+use Rattle.mw_syntax.specs.Expressions.{kind_at}
+use Rattle.mw_syntax.specs.Items.{kinds_of, operand_at, is_mark, with_first, and_behind, operands_at}
 use Rattle.mw_asm.specs.Values.{Placed, value_of, converted, fits_field, if_fits, in_range, operand_by, and_operands, operands_of}
 
 pub fits_field-InRange : (f : Field) (operand : ℤ) → fits_field f operand ≡ true → InRange f operand

@@ -8,18 +8,18 @@ use Rattle.std.proofs.lemmas.List.{append-nil, take_at, drop_at}
 use Rattle.mw_text.specs.declared.token.Token.{Token}
 use Rattle.mw_text.specs.declared.token.TokenKind.{TokenKind}
 use Rattle.mw_text.specs.declared.token.TokenKind.TheVariants.{Word, Number, Comma as CommaToken, Colon, Open as OpenToken, Close as CloseToken, Plus, Minus}
-use Rattle.mw_asm.specs.declared.expression.Base.{Base}
-use Rattle.mw_asm.specs.declared.expression.Base.TheVariants.{Number as BaseNumber, Negative}
-use Rattle.mw_asm.specs.declared.expression.Addend.TheVariants.{Nothing}
-use Rattle.mw_asm.specs.declared.expression.Expression.{Expression}
-use Rattle.mw_asm.specs.declared.expression.Read.{Read}
-use Rattle.mw_asm.specs.declared.item.Item.{Item}
-use Rattle.mw_asm.specs.declared.item.Item.TheVariants.{Operand, Comma, Open, Close}
-use Rattle.mw_asm.specs.declared.item.Kind.{Kind}
-use Rattle.mw_asm.specs.declared.item.Kind.TheVariants.{Register, Value, Target, Upper}
-use Rattle.mw_asm.specs.Expressions.{kind_at, column_at, read_of, with_addend, expression_by, expression_at}
-use Rattle.mw_asm.specs.Items.{kinds_of, register_of, text_of, register_in, register_or, operand_at, is_mark, with_first, and_behind, operands_at}
-use Rattle.mw_asm.specs.Lines.{label_by, label_of}
+use Rattle.mw_syntax.specs.declared.expression.Base.{Base}
+use Rattle.mw_syntax.specs.declared.expression.Base.TheVariants.{Number as BaseNumber, Negative}
+use Rattle.mw_syntax.specs.declared.expression.Addend.TheVariants.{Nothing}
+use Rattle.mw_syntax.specs.declared.expression.Expression.{Expression}
+use Rattle.mw_syntax.specs.declared.expression.Read.{Read}
+use Rattle.mw_syntax.specs.declared.item.Item.{Item}
+use Rattle.mw_syntax.specs.declared.item.Item.TheVariants.{Operand, Comma, Open, Close}
+use Rattle.mw_syntax.specs.declared.item.Kind.{Kind}
+use Rattle.mw_syntax.specs.declared.item.Kind.TheVariants.{Register, Value, Target, Upper}
+use Rattle.mw_syntax.specs.Expressions.{kind_at, column_at, read_of, with_addend, expression_by, expression_at}
+use Rattle.mw_syntax.specs.Items.{kinds_of, register_of, text_of, register_in, register_or, operand_at, is_mark, with_first, and_behind, operands_at}
+use Rattle.mw_syntax.specs.Lines.{label_by, label_of}
 use Rattle.mw_asm.specs.Disassembly.{operand_text, operands_text, behind_name}
 use Rattle.mw_asm.proofs.DisassemblyLemmas.{operand-some, behind-some}
 use Rattle.mw_asm.proofs.OperandTextLemmas.{unsigned-text, unsigned-token, register-below, register-unsigned, behind-separated}

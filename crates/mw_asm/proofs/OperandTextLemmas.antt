@@ -11,11 +11,11 @@ use Rattle.mw_text.specs.declared.piece.Piece.TheVariants.{Found}
 use Rattle.mw_text.specs.Pieces.{piece_at}
 use Rattle.mw_text.specs.Lines.{with_first, tokens_from}
 use Rattle.mw_tables.specs.Layouts.{IsRegister}
-use Rattle.mw_asm.specs.declared.item.Item.{Item}
-use Rattle.mw_asm.specs.declared.item.Item.TheVariants.{Operand, Comma, Open, Close}
-use Rattle.mw_asm.specs.declared.item.Kind.{Kind}
-use Rattle.mw_asm.specs.declared.item.Kind.TheVariants.{Register, Value, Target, Upper}
-use Rattle.mw_asm.specs.Items.{kinds_of}
+use Rattle.mw_syntax.specs.declared.item.Item.{Item}
+use Rattle.mw_syntax.specs.declared.item.Item.TheVariants.{Operand, Comma, Open, Close}
+use Rattle.mw_syntax.specs.declared.item.Kind.{Kind}
+use Rattle.mw_syntax.specs.declared.item.Kind.TheVariants.{Register, Value, Target, Upper}
+use Rattle.mw_syntax.specs.Items.{kinds_of}
 use Rattle.mw_digits.specs.Digits.{short_hex, signed_decimal}
 use Rattle.mw_digits.proofs.DigitLaws.{decimal-some, decimal-short, short_hex-short}
 use Rattle.mw_asm.specs.Disassembly.{operand_text, operands_text, behind_name}

@@ -10,15 +10,15 @@ use Rattle.mw_tables.specs.declared.layout.Field.{Field}
 use Rattle.mw_tables.specs.Layouts.{width_of, is_readable, operand_from, bits_from, InRange, HasOperands, IsRegister, IsUnsigned}
 use Rattle.mw_tables.proofs.FieldLaws.{InRange-bits}
 use Rattle.mw_tables.proofs.RangeLaws.{InRange-unsigned}
-use Rattle.mw_asm.specs.declared.expression.Base.TheVariants.{Number as BaseNumber, Negative}
-use Rattle.mw_asm.specs.declared.expression.Addend.TheVariants.{Nothing}
-use Rattle.mw_asm.specs.declared.expression.Expression.{Expression}
-use Rattle.mw_asm.specs.declared.fault.Refusal.{Refusal}
-use Rattle.mw_asm.specs.declared.item.Item.{Item}
-use Rattle.mw_asm.specs.declared.item.Item.TheVariants.{Operand, Comma, Open, Close}
-use Rattle.mw_asm.specs.declared.item.Kind.{Kind}
-use Rattle.mw_asm.specs.declared.item.Kind.TheVariants.{Register, Value, Target, Upper}
-use Rattle.mw_asm.specs.Items.{kinds_of}
+use Rattle.mw_syntax.specs.declared.expression.Base.TheVariants.{Number as BaseNumber, Negative}
+use Rattle.mw_syntax.specs.declared.expression.Addend.TheVariants.{Nothing}
+use Rattle.mw_syntax.specs.declared.expression.Expression.{Expression}
+use Rattle.mw_syntax.specs.declared.fault.Refusal.{Refusal}
+use Rattle.mw_syntax.specs.declared.item.Item.{Item}
+use Rattle.mw_syntax.specs.declared.item.Item.TheVariants.{Operand, Comma, Open, Close}
+use Rattle.mw_syntax.specs.declared.item.Kind.{Kind}
+use Rattle.mw_syntax.specs.declared.item.Kind.TheVariants.{Register, Value, Target, Upper}
+use Rattle.mw_syntax.specs.Items.{kinds_of}
 use Rattle.mw_asm.specs.Values.{Placed, base_value, sum_value, value_of, is_between, displacement_of, converted, fits_field, if_fits, in_range, operand_by, and_operands, operands_of}
 use Rattle.mw_asm.specs.Disassembly.{operand_text}
 use Rattle.mw_asm.proofs.ConversionLemmas.{InRange-fits}

@@ -4,22 +4,22 @@ use Rattle.std.specs.Prelude.{bytes_eq, pos, is_some}
 use Rattle.std.specs.Option.{option_or, option_map_or}
 use Rattle.std.specs.Result.{IsOkAnd}
 use Rattle.std.proofs.lemmas.Slice.Eq.{bytes_eq-Decides}
-use Rattle.mw_asm.specs.declared.expression.Base.{Base}
-use Rattle.mw_asm.specs.declared.expression.Base.TheVariants.{Number, Negative, Name, Here}
-use Rattle.mw_asm.specs.declared.expression.Expression.{Expression}
+use Rattle.mw_syntax.specs.declared.expression.Base.{Base}
+use Rattle.mw_syntax.specs.declared.expression.Base.TheVariants.{Number, Negative, Name, Here}
+use Rattle.mw_syntax.specs.declared.expression.Expression.{Expression}
 use Rattle.mw_asm.specs.declared.fault.Place.{Place}
-use Rattle.mw_asm.specs.declared.fault.Refusal.{Refusal}
-use Rattle.mw_asm.specs.declared.fault.LineFault.{LineFault}
-use Rattle.mw_asm.specs.declared.fault.LineFault.TheVariants.{Refused, NoMemory}
-use Rattle.mw_asm.specs.declared.statement.Label.{Label}
-use Rattle.mw_asm.specs.declared.statement.Statement.{Statement}
-use Rattle.mw_asm.specs.declared.statement.Statement.TheVariants.{Nothing, Org, Data, Instruction}
-use Rattle.mw_asm.specs.declared.statement.Line.{Line}
-use Rattle.mw_asm.specs.declared.fault.What.TheVariants.{Label as LabelFault}
-use Rattle.mw_asm.specs.Lines.{refusal, line_of}
+use Rattle.mw_syntax.specs.declared.fault.Refusal.{Refusal}
+use Rattle.mw_syntax.specs.declared.fault.LineFault.{LineFault}
+use Rattle.mw_syntax.specs.declared.fault.LineFault.TheVariants.{Refused, NoMemory}
+use Rattle.mw_syntax.specs.declared.statement.Label.{Label}
+use Rattle.mw_syntax.specs.declared.statement.Statement.{Statement}
+use Rattle.mw_syntax.specs.declared.statement.Statement.TheVariants.{Nothing, Org, Data, Instruction}
+use Rattle.mw_syntax.specs.declared.statement.Line.{Line}
+use Rattle.mw_syntax.specs.declared.fault.What.TheVariants.{Label as LabelFault}
+use Rattle.mw_syntax.specs.Lines.{refusal, line_of}
 use Rattle.mw_asm.specs.Values.{Placed, address_of, part_of, base_value, sum_value, value_of}
 use Rattle.mw_asm.specs.Labels.{AreSame}
-use Rattle.mw_asm.specs.Faults.{IsReadAs}
+use Rattle.mw_syntax.specs.Faults.{IsReadAs}
 use Rattle.mw_asm.specs.Assembled.{Pass, with_label, is_twice, org_by, behind_statement, at_address, first_by, first_line, and_then, first_pass}
 use Rattle.mw_asm.specs.Passes.{fault_at, IfBad, IsLabelled, GoesOn, IsPlaced}
 

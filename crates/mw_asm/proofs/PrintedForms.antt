@@ -9,14 +9,14 @@ use Rattle.mw_text.specs.declared.token.TokenKind.TheVariants.{Word, Number, Com
 use Rattle.mw_text.specs.Pieces.{is_of_word}
 use Rattle.mw_tables.specs.declared.layout.Field.{Field}
 use Rattle.mw_tables.specs.Layouts.{width_of, is_readable, IsRegister}
-use Rattle.mw_asm.specs.declared.expression.Base.{Base}
-use Rattle.mw_asm.specs.declared.expression.Base.TheVariants.{Number as BaseNumber, Negative}
-use Rattle.mw_asm.specs.declared.expression.Addend.TheVariants.{Nothing}
-use Rattle.mw_asm.specs.declared.expression.Expression.{Expression}
-use Rattle.mw_asm.specs.declared.item.Kind.{Kind}
-use Rattle.mw_asm.specs.declared.item.Kind.TheVariants.{Register, Value, Target, Upper}
-use Rattle.mw_asm.specs.declared.item.Item.{Item}
-use Rattle.mw_asm.specs.declared.item.Item.TheVariants.{Operand, Comma, Open, Close}
+use Rattle.mw_syntax.specs.declared.expression.Base.{Base}
+use Rattle.mw_syntax.specs.declared.expression.Base.TheVariants.{Number as BaseNumber, Negative}
+use Rattle.mw_syntax.specs.declared.expression.Addend.TheVariants.{Nothing}
+use Rattle.mw_syntax.specs.declared.expression.Expression.{Expression}
+use Rattle.mw_syntax.specs.declared.item.Kind.{Kind}
+use Rattle.mw_syntax.specs.declared.item.Kind.TheVariants.{Register, Value, Target, Upper}
+use Rattle.mw_syntax.specs.declared.item.Item.{Item}
+use Rattle.mw_syntax.specs.declared.item.Item.TheVariants.{Operand, Comma, Open, Close}
 use Rattle.mw_asm.specs.Assembled.{first_line, second_line}
 use Rattle.mw_asm.specs.Disassembly.{operand_text}
 

@@ -17,30 +17,31 @@ use Rattle.mw_tables.specs.Matching.{kind_number}
 use Rattle.mw_decode.specs.declared.insn.Insn.{Insn}
 use Rattle.mw_decode.specs.Rules.{is_illegal_form}
 use Rattle.mw_decode.specs.Encode.{encode_of, encoded_by, words_of}
-use Rattle.mw_asm.specs.declared.expression.Base.{Base}
-use Rattle.mw_asm.specs.declared.expression.Base.TheVariants.{Number, Negative, Name, Here}
-use Rattle.mw_asm.specs.declared.expression.Expression.{Expression}
+use Rattle.mw_syntax.specs.declared.expression.Base.{Base}
+use Rattle.mw_syntax.specs.declared.expression.Base.TheVariants.{Number, Negative, Name, Here}
+use Rattle.mw_syntax.specs.declared.expression.Expression.{Expression}
 use Rattle.mw_asm.specs.declared.fault.Place.{Place}
-use Rattle.mw_asm.specs.declared.fault.Refusal.{Refusal}
-use Rattle.mw_asm.specs.declared.fault.LineFault.{LineFault}
-use Rattle.mw_asm.specs.declared.fault.LineFault.TheVariants.{Refused, NoMemory}
-use Rattle.mw_asm.specs.declared.item.Kind.{Kind}
-use Rattle.mw_asm.specs.declared.mnemonic.Mnemonic.{Mnemonic}
-use Rattle.mw_asm.specs.declared.statement.Unit.{Unit as DataUnit}
-use Rattle.mw_asm.specs.declared.statement.Unit.TheVariants.{Byte, Long, Quad, BigQuad}
-use Rattle.mw_asm.specs.declared.statement.Label.{Label}
-use Rattle.mw_asm.specs.declared.statement.Statement.{Statement}
-use Rattle.mw_asm.specs.declared.statement.Statement.TheVariants.{Nothing, Org, Data, Instruction}
-use Rattle.mw_asm.specs.declared.statement.Line.{Line}
-use Rattle.mw_asm.specs.Items.{kinds_of, pattern_items}
-use Rattle.mw_asm.specs.Lines.{line_of, shape_at}
-use Rattle.mw_asm.specs.Bounds.{IsStatement}
+use Rattle.mw_syntax.specs.declared.fault.Refusal.{Refusal}
+use Rattle.mw_syntax.specs.declared.fault.LineFault.{LineFault}
+use Rattle.mw_syntax.specs.declared.fault.LineFault.TheVariants.{Refused, NoMemory}
+use Rattle.mw_syntax.specs.declared.item.Kind.{Kind}
+use Rattle.mw_syntax.specs.declared.mnemonic.Mnemonic.{Mnemonic}
+use Rattle.mw_syntax.specs.declared.statement.Unit.{Unit as DataUnit}
+use Rattle.mw_syntax.specs.declared.statement.Unit.TheVariants.{Byte, Long, Quad, BigQuad}
+use Rattle.mw_syntax.specs.declared.statement.Label.{Label}
+use Rattle.mw_syntax.specs.declared.statement.Statement.{Statement}
+use Rattle.mw_syntax.specs.declared.statement.Statement.TheVariants.{Nothing, Org, Data, Instruction}
+use Rattle.mw_syntax.specs.declared.statement.Line.{Line}
+use Rattle.mw_syntax.specs.Items.{kinds_of, pattern_items}
+use Rattle.mw_syntax.specs.Lines.{line_of, shape_at}
+use Rattle.mw_syntax.specs.Bounds.{IsStatement}
 use Rattle.mw_asm.specs.Values.{Placed, address_of, part_of, base_value, sum_value, value_of, operand_by, and_operands, operands_of, written_fields, fields_at, insn_of, code_bytes, if_legal, instruction_of, unit_size, unit_bytes, value_by, fits_unit, and_bytes, data_bytes}
 use Rattle.mw_asm.specs.Labels.{AreSame}
-use Rattle.mw_asm.specs.Faults.{IsReadAs, IsAdded}
+use Rattle.mw_syntax.specs.Faults.{IsReadAs}
+use Rattle.mw_asm.specs.Faults.{IsAdded}
 use Rattle.mw_asm.specs.Assembled.{Pass, image_limit, code_size, with_label, is_twice, org_by, behind_bytes, behind_statement, at_address, first_by, first_line, and_then, first_pass, statement_bytes, second_by, second_line, in_front, second_pass}
 use Rattle.mw_asm.specs.Passes.{fault_at, IfBad, IsInside, LiesInside}
-use Rattle.mw_asm.proofs.LineLemmas.{line_of-IsLine}
+use Rattle.mw_syntax.proofs.LineLemmas.{line_of-IsLine}
 use Rattle.mw_asm.proofs.MeaningLemmas.{MeansRow, mnemonic_of-MeansRow}
 use Rattle.mw_asm.proofs.PassLemmas.{address_of-append, value_of-same}
 

@@ -2,7 +2,7 @@
 use Rattle.std.proofs.Common.{◌≡◌, ℕ, ◌+◌, Bool, true, false, List, [], ◌∷◌, ◌++◌, Option, Some, None, Result, Ok, Err, length, refl, sym, ap, ◌∙◌}
 use Rattle.std.specs.Prelude.{nat_lt, if◌then◌else◌, IfOk, IfErr}
 use Rattle.mw_asm.specs.declared.fault.Place.{Place}
-use Rattle.mw_asm.specs.declared.fault.Refusal.{Refusal}
+use Rattle.mw_syntax.specs.declared.fault.Refusal.{Refusal}
 use Rattle.mw_asm.specs.declared.fault.AsmFault.{AsmFault}
 use Rattle.mw_asm.specs.declared.fault.AsmFault.TheVariants.{Bad, NoMemory}
 use Rattle.mw_asm.specs.Values.{Placed}

@@ -9,15 +9,15 @@ use Rattle.mw_text.specs.declared.piece.Piece.TheVariants.{Found}
 use Rattle.mw_text.specs.Pieces.{piece_at}
 use Rattle.mw_text.specs.Lines.{with_first, tokens_from, tokens_of}
 use Rattle.mw_text.specs.Texts.{is_word}
-use Rattle.mw_asm.specs.declared.expression.Base.TheVariants.{Number as BaseNumber}
-use Rattle.mw_asm.specs.declared.expression.Addend.TheVariants.{Nothing as NoAddend}
-use Rattle.mw_asm.specs.declared.expression.Expression.{Expression}
-use Rattle.mw_asm.specs.declared.fault.What.TheVariants.{Range, Org as OrgFault, TooLong}
-use Rattle.mw_asm.specs.declared.fault.Refusal.{Refusal}
-use Rattle.mw_asm.specs.declared.statement.Unit.TheVariants.{Long}
-use Rattle.mw_asm.specs.declared.statement.Statement.TheVariants.{Org, Data}
-use Rattle.mw_asm.specs.Expressions.{expression_at}
-use Rattle.mw_asm.specs.Lines.{refusal, values_at, line_in, line_of}
+use Rattle.mw_syntax.specs.declared.expression.Base.TheVariants.{Number as BaseNumber}
+use Rattle.mw_syntax.specs.declared.expression.Addend.TheVariants.{Nothing as NoAddend}
+use Rattle.mw_syntax.specs.declared.expression.Expression.{Expression}
+use Rattle.mw_syntax.specs.declared.fault.What.TheVariants.{Range, Org as OrgFault, TooLong}
+use Rattle.mw_syntax.specs.declared.fault.Refusal.{Refusal}
+use Rattle.mw_syntax.specs.declared.statement.Unit.TheVariants.{Long}
+use Rattle.mw_syntax.specs.declared.statement.Statement.TheVariants.{Org, Data}
+use Rattle.mw_syntax.specs.Expressions.{expression_at}
+use Rattle.mw_syntax.specs.Lines.{refusal, values_at, line_in, line_of}
 use Rattle.mw_asm.specs.Values.{word_bytes, fits_unit, value_by, and_bytes, data_bytes}
 use Rattle.mw_asm.specs.Assembled.{org_by, behind_bytes, at_address, first_by, second_by, first_line, second_line, image_limit, source_limit, assembled}
 use Rattle.mw_asm.specs.Passes.{start}

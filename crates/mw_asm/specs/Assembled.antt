@@ -5,15 +5,15 @@ use Rattle.std.specs.List.{slice_split}
 use Rattle.mw_tables.specs.Row.{TableRow}
 use Rattle.mw_tables.specs.Rows.{table}
 use Rattle.mw_tables.specs.Matching.{kind_number}
-use Rattle.mw_asm.specs.declared.expression.Expression.{Expression}
-use Rattle.mw_asm.specs.declared.fault.What.TheVariants.{Label as LabelFault, Org as OrgFault, TooLong}
-use Rattle.mw_asm.specs.declared.fault.Refusal.{Refusal}
+use Rattle.mw_syntax.specs.declared.expression.Expression.{Expression}
+use Rattle.mw_syntax.specs.declared.fault.What.TheVariants.{Label as LabelFault, Org as OrgFault, TooLong}
+use Rattle.mw_syntax.specs.declared.fault.Refusal.{Refusal}
 use Rattle.mw_asm.specs.declared.fault.Place.{Place}
-use Rattle.mw_asm.specs.declared.statement.Label.{Label}
-use Rattle.mw_asm.specs.declared.statement.Statement.{Statement}
-use Rattle.mw_asm.specs.declared.statement.Statement.TheVariants.{Nothing, Org, Data, Instruction}
-use Rattle.mw_asm.specs.declared.statement.Line.{Line}
-use Rattle.mw_asm.specs.Lines.{refusal, line_of}
+use Rattle.mw_syntax.specs.declared.statement.Label.{Label}
+use Rattle.mw_syntax.specs.declared.statement.Statement.{Statement}
+use Rattle.mw_syntax.specs.declared.statement.Statement.TheVariants.{Nothing, Org, Data, Instruction}
+use Rattle.mw_syntax.specs.declared.statement.Line.{Line}
+use Rattle.mw_syntax.specs.Lines.{refusal, line_of}
 use Rattle.mw_asm.specs.Values.{Placed, address_of, part_of, value_of, unit_size, data_bytes, instruction_bytes}
 
 -- the lines of a source, without their line feeds

@@ -9,13 +9,13 @@ use Rattle.mw_decode.specs.declared.insn.Insn.{Insn}
 use Rattle.mw_decode.specs.declared.insn.Decoded.{Decoded}
 use Rattle.mw_decode.specs.declared.insn.Decoded.TheVariants.{Insn as Is, Unavailable, Alignment, Illegal}
 use Rattle.mw_decode.specs.Decode.{decode_of, is_prefix}
-use Rattle.mw_asm.specs.declared.item.Kind.{Kind}
-use Rattle.mw_asm.specs.declared.item.Kind.TheVariants.{Register, Target}
-use Rattle.mw_asm.specs.declared.item.Item.{Item}
-use Rattle.mw_asm.specs.declared.item.Item.TheVariants.{Operand, Comma, Open, Close}
-use Rattle.mw_asm.specs.Items.{items_of}
-use Rattle.mw_asm.specs.Mnemonics.{spelled}
-use Rattle.mw_asm.specs.Lines.{shape_at}
+use Rattle.mw_syntax.specs.declared.item.Kind.{Kind}
+use Rattle.mw_syntax.specs.declared.item.Kind.TheVariants.{Register, Target}
+use Rattle.mw_syntax.specs.declared.item.Item.{Item}
+use Rattle.mw_syntax.specs.declared.item.Item.TheVariants.{Operand, Comma, Open, Close}
+use Rattle.mw_syntax.specs.Items.{items_of}
+use Rattle.mw_syntax.specs.Mnemonics.{spelled}
+use Rattle.mw_syntax.specs.Lines.{shape_at}
 
 -- an operand: a register as `rN`, a target as its address, anything else as a decimal number
 abbrev pub operand_text : Kind → Bool → ℕ → ℤ → List ℕ

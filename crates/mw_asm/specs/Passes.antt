@@ -2,18 +2,18 @@
 use Rattle.std.specs.Prelude.{◌≡◌, ⊤, ℕ, ◌+◌, true, false, List, [], pos, ◌≤ℤ◌, Option, IfSome, IfOk, Result, Ok, Err}
 use Rattle.std.specs.Result.{IsOkAnd}
 use Rattle.std.specs.Option.{option_map_or}
-use Rattle.mw_asm.specs.declared.fault.What.TheVariants.{Label as LabelFault}
+use Rattle.mw_syntax.specs.declared.fault.What.TheVariants.{Label as LabelFault}
 use Rattle.mw_asm.specs.declared.fault.Place.{Place}
-use Rattle.mw_asm.specs.declared.fault.Refusal.{Refusal}
-use Rattle.mw_asm.specs.declared.fault.LineFault.{LineFault}
-use Rattle.mw_asm.specs.declared.fault.LineFault.TheVariants.{Refused, NoMemory}
+use Rattle.mw_syntax.specs.declared.fault.Refusal.{Refusal}
+use Rattle.mw_syntax.specs.declared.fault.LineFault.{LineFault}
+use Rattle.mw_syntax.specs.declared.fault.LineFault.TheVariants.{Refused, NoMemory}
 use Rattle.mw_asm.specs.declared.fault.AsmFault.{AsmFault}
 use Rattle.mw_asm.specs.declared.fault.AsmFault.TheVariants.{Bad, NoMemory as AsmNoMemory}
-use Rattle.mw_asm.specs.declared.statement.Label.{Label}
-use Rattle.mw_asm.specs.declared.statement.Statement.{Statement}
-use Rattle.mw_asm.specs.declared.statement.Statement.TheVariants.{Nothing, Org, Data, Instruction}
-use Rattle.mw_asm.specs.declared.statement.Line.{Line}
-use Rattle.mw_asm.specs.Lines.{refusal, line_of}
+use Rattle.mw_syntax.specs.declared.statement.Label.{Label}
+use Rattle.mw_syntax.specs.declared.statement.Statement.{Statement}
+use Rattle.mw_syntax.specs.declared.statement.Statement.TheVariants.{Nothing, Org, Data, Instruction}
+use Rattle.mw_syntax.specs.declared.statement.Line.{Line}
+use Rattle.mw_syntax.specs.Lines.{refusal, line_of}
 use Rattle.mw_asm.specs.Values.{Placed, value_of}
 use Rattle.mw_asm.specs.Labels.{AreSame}
 use Rattle.mw_asm.specs.Assembled.{Pass, image_limit, with_label, is_twice, first_pass, lines_of}

@@ -1,7 +1,7 @@
 -- How large values are, and how many operands are written.
 use Rattle.std.specs.Prelude.{ℕ, ◌≡◌, ⊤, ℤ, pos, neg_ℤ, ◌<ℤ◌}
-use Rattle.mw_asm.specs.declared.mnemonic.Pattern.{Pattern}
-use Rattle.mw_asm.specs.declared.mnemonic.Pattern.TheVariants.{Row, Li, Lis, Mr, Nop, Always, Light, Tables}
+use Rattle.mw_syntax.specs.declared.mnemonic.Pattern.{Pattern}
+use Rattle.mw_syntax.specs.declared.mnemonic.Pattern.TheVariants.{Row, Li, Lis, Mr, Nop, Always, Light, Tables}
 
 -- a number between a bound and its negative
 abbrev pub IsSmall : ℕ → ℤ → Type 0

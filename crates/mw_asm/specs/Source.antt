@@ -1,7 +1,7 @@
 -- A whole source in two functions: what it means, by its labels and its statements, and which refusal comes first.
 use Rattle.std.specs.Prelude.{ℕ, ◌+◌, nat_lt, if◌then◌else◌, List, [], ◌∷◌, ◌++◌, Option, Some, None, Result, Ok, Err, length}
 use Rattle.mw_asm.specs.declared.fault.Place.{Place}
-use Rattle.mw_asm.specs.declared.fault.Refusal.{Refusal}
+use Rattle.mw_syntax.specs.declared.fault.Refusal.{Refusal}
 use Rattle.mw_asm.specs.Values.{Placed}
 use Rattle.mw_asm.specs.Assembled.{Pass, lines_of, first_line, second_line, placed_at, place_past, source_limit}
 use Rattle.mw_asm.specs.Passes.{start}

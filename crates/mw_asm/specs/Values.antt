@@ -11,22 +11,22 @@ use Rattle.mw_decode.specs.declared.insn.Insn.{Insn}
 use Rattle.mw_decode.specs.declared.insn.Code.{Code}
 use Rattle.mw_decode.specs.Rules.{is_illegal_form}
 use Rattle.mw_decode.specs.Encode.{encode_of}
-use Rattle.mw_asm.specs.declared.expression.Base.{Base}
-use Rattle.mw_asm.specs.declared.expression.Base.TheVariants.{Number, Negative, Name, Here}
-use Rattle.mw_asm.specs.declared.expression.Addend.{Addend}
-use Rattle.mw_asm.specs.declared.expression.Addend.TheVariants.{Nothing, Plus, Minus}
-use Rattle.mw_asm.specs.declared.expression.Expression.{Expression}
-use Rattle.mw_asm.specs.declared.fault.What.TheVariants.{Range, Label as LabelFault}
-use Rattle.mw_asm.specs.declared.fault.Refusal.{Refusal}
-use Rattle.mw_asm.specs.declared.item.Kind.{Kind}
-use Rattle.mw_asm.specs.declared.item.Kind.TheVariants.{Target, Upper}
-use Rattle.mw_asm.specs.declared.mnemonic.Mnemonic.{Mnemonic}
-use Rattle.mw_asm.specs.declared.mnemonic.Pattern.{Pattern}
-use Rattle.mw_asm.specs.declared.mnemonic.Pattern.TheVariants.{Row, Li, Lis, Mr, Nop, Always, Light, Tables}
-use Rattle.mw_asm.specs.declared.statement.Unit.{Unit as DataUnit}
-use Rattle.mw_asm.specs.declared.statement.Unit.TheVariants.{Byte, Long, Quad, BigQuad}
-use Rattle.mw_asm.specs.Items.{kinds_of, pattern_items}
-use Rattle.mw_asm.specs.Lines.{refusal, shape_at}
+use Rattle.mw_syntax.specs.declared.expression.Base.{Base}
+use Rattle.mw_syntax.specs.declared.expression.Base.TheVariants.{Number, Negative, Name, Here}
+use Rattle.mw_syntax.specs.declared.expression.Addend.{Addend}
+use Rattle.mw_syntax.specs.declared.expression.Addend.TheVariants.{Nothing, Plus, Minus}
+use Rattle.mw_syntax.specs.declared.expression.Expression.{Expression}
+use Rattle.mw_syntax.specs.declared.fault.What.TheVariants.{Range, Label as LabelFault}
+use Rattle.mw_syntax.specs.declared.fault.Refusal.{Refusal}
+use Rattle.mw_syntax.specs.declared.item.Kind.{Kind}
+use Rattle.mw_syntax.specs.declared.item.Kind.TheVariants.{Target, Upper}
+use Rattle.mw_syntax.specs.declared.mnemonic.Mnemonic.{Mnemonic}
+use Rattle.mw_syntax.specs.declared.mnemonic.Pattern.{Pattern}
+use Rattle.mw_syntax.specs.declared.mnemonic.Pattern.TheVariants.{Row, Li, Lis, Mr, Nop, Always, Light, Tables}
+use Rattle.mw_syntax.specs.declared.statement.Unit.{Unit as DataUnit}
+use Rattle.mw_syntax.specs.declared.statement.Unit.TheVariants.{Byte, Long, Quad, BigQuad}
+use Rattle.mw_syntax.specs.Items.{kinds_of, pattern_items}
+use Rattle.mw_syntax.specs.Lines.{refusal, shape_at}
 
 -- a label with its address
 pub record Placed : Type 0 where

@@ -1,13 +1,14 @@
 ghost use Rattle.std.specs.Prelude.{◌≡◌, ◌+◌, ◌<◌, ◌≤◌, Ok, Err, Some, None, IfOk, IfErr, length};
-ghost use Rattle.mw_asm.specs.declared.fault.What.TheVariants.{TooLong};
+ghost use Rattle.mw_syntax.specs.declared.fault.What.TheVariants.{TooLong};
 ghost use Rattle.mw_asm.specs.declared.fault.AsmFault.TheVariants.{Bad};
 ghost use Rattle.mw_asm.specs.Assembled.{assembled, image_limit, last_of, lines_of, place_past, source_limit};
 ghost use Rattle.mw_asm.specs.Passes.{IfBad};
 ghost use Rattle.mw_asm.specs.Source.{meaning_of, refusal_of};
 
-use crate::fault::{AsmFault, What};
+use crate::fault::AsmFault;
 use crate::passes::{cut_line, place_labels, write_lines};
 use mw_bits::Bytes;
+use mw_syntax::What;
 use std::alloc::Global;
 
 /// A source has at most 4 MiB.

@@ -3,18 +3,18 @@ ghost use Rattle.std.specs.Int.{w64, cast_unsigned};
 ghost use Rattle.mw_decode.specs.declared.insn.Code.{Code};
 ghost use Rattle.mw_decode.specs.Decode.{decode_of, is_prefix, IsInsn};
 ghost use Rattle.mw_decode.specs.Encode.{encode_of};
-ghost use Rattle.mw_asm.specs.Items.{items_of};
-ghost use Rattle.mw_asm.specs.Lines.{shape_at};
-ghost use Rattle.mw_asm.specs.Mnemonics.{ending, spelled};
+ghost use Rattle.mw_syntax.specs.Items.{items_of};
+ghost use Rattle.mw_syntax.specs.Lines.{shape_at};
+ghost use Rattle.mw_syntax.specs.Mnemonics.{ending, spelled};
 ghost use Rattle.mw_asm.specs.Values.{code_bytes};
 ghost use Rattle.mw_asm.specs.Assembled.{assembled, code_size, image_limit, source_limit};
 ghost use Rattle.mw_asm.specs.Again.{encoded_image, statements_of, filled_image, AssemblesAgain, AssemblesTo, IsClear, IsClearCode, IsExactIfClear};
 ghost use Rattle.mw_asm.specs.Disassembly.{operand_text, operands_text, behind_name, name_at, statement_text, image_byte, image_word, suffix_in, words_text, line_text, entry_text, long_entry, entry_by, entry_with, entry_at, entries_of, disassembly};
 
-use crate::item::{Item, Kind, items_of_shape};
 use mw_bits::Bytes;
 use mw_decode::{Decoded, Insn, decode, is_prefix};
 use mw_digits::{add_hex, add_short_hex, add_signed};
+use mw_syntax::{Item, Kind, items_of_shape, shape_of_row};
 use mw_tables::rows;
 use std::alloc::{AllocError as NoMemory, Global};
 
@@ -35,10 +35,7 @@ fn name_of_row(place: u16) -> &'static str
 fn items_of_row(place: u16) -> &'static [Item]
     ensures { result.now ≡ items_of (shape_at place) }
 {
-    match rows().get(usize::from(place)) {
-        Some(row) => items_of_shape(row.shape),
-        None => &[],
-    }
+    items_of_shape(shape_of_row(place))
 }
 
 /// Appends the ending of a form, where it is chosen.

@@ -1,31 +1,4 @@
-/// What a refused place of a source is.
-#[derive(Clone, Copy, Debug, PartialEq, Eq)]
-pub enum What {
-    /// No token stands there.
-    Token,
-    /// An unknown name or directive.
-    Name,
-    /// A token that can't stand there, or an operand that is missing.
-    Operand,
-    /// A value out of its field's range, one that isn't a multiple of 4 where it has to be, or an illegal
-    /// form.
-    Range,
-    /// A label that is defined twice, or never.
-    Label,
-    /// An `.org` that falls, or whose value isn't known yet.
-    Org,
-    /// An image of more than 16,777,216 bytes, or a source of more than 4 MiB.
-    TooLong,
-}
-
-/// A refused place of a line.
-#[derive(Clone, Copy, Debug, PartialEq, Eq)]
-pub struct Refusal {
-    /// The column; the line's first byte is column 1.
-    pub column: u32,
-    /// What is refused.
-    pub what: What,
-}
+use mw_syntax::What;
 
 /// A refused place of a source.
 #[derive(Clone, Copy, Debug, PartialEq, Eq)]
@@ -36,15 +9,6 @@ pub struct Place {
     pub column: u32,
     /// What is refused.
     pub what: What,
-}
-
-/// Why a line isn't read.
-#[derive(Clone, Copy, Debug, PartialEq, Eq)]
-pub enum LineFault {
-    /// It is refused.
-    Refused(Refusal),
-    /// There was no memory for it.
-    NoMemory,
 }
 
 /// Why a source isn't assembled.

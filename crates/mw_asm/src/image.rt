@@ -2,17 +2,15 @@ ghost use Rattle.std.specs.Prelude.{◌≡◌, ◌+◌, ◌-◌, ◌*◌, ◌%�
 ghost use Rattle.std.specs.Option.{option_map_or};
 ghost use Rattle.mw_asm.specs.Assembled.{image_limit, statement_bytes};
 ghost use Rattle.mw_asm.specs.Passes.{IsInside};
-ghost use Rattle.mw_asm.specs.Bounds.{IsExpression, IsStatement};
+ghost use Rattle.mw_syntax.specs.Bounds.{IsExpression, IsStatement};
 ghost use Rattle.mw_asm.specs.Faults.{IsAdded};
 ghost use Rattle.mw_asm.specs.Values.{data_bytes, fits_unit, unit_bytes, unit_size, value_by, value_of};
 
-use crate::expression::Expression;
-use crate::fault::{LineFault, Refusal, What};
 use crate::instruction::add_instruction;
 use crate::labels::Labels;
-use crate::statement::{Statement, Unit};
 use crate::value::{label_column, low_bits, value_of};
 use mw_bits::Bytes;
+use mw_syntax::{Expression, LineFault, Refusal, Statement, Unit, What};
 use std::alloc::AllocError as NoMemory;
 
 /// Whether a unit can hold the value, signed or unsigned.

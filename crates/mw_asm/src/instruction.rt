@@ -2,23 +2,22 @@ ghost use Rattle.std.specs.Prelude.{◌≡◌, ◌+◌, ◌-◌, ◌^◌, ◌<�
 ghost use Rattle.std.specs.List.{list_all};
 ghost use Rattle.mw_tables.specs.Rows.{row_count};
 ghost use Rattle.mw_tables.specs.Layouts.{is_readable};
-ghost use Rattle.mw_asm.specs.Bounds.{IsExpression, IsInstruction};
+ghost use Rattle.mw_syntax.specs.Bounds.{IsExpression, IsInstruction};
 ghost use Rattle.mw_asm.specs.Faults.{IsAdded};
-ghost use Rattle.mw_asm.specs.Items.{kinds_of, pattern_items};
-ghost use Rattle.mw_asm.specs.Lines.{shape_at};
+ghost use Rattle.mw_syntax.specs.Items.{kinds_of, pattern_items};
+ghost use Rattle.mw_syntax.specs.Lines.{shape_at};
 ghost use Rattle.mw_asm.specs.Sizes.{IsWritten};
 ghost use Rattle.mw_asm.specs.Values.{code_bytes, fields_at, filled, insn_of, instruction_bytes, operand_by, operands_of, value_of, written_fields};
 
-use crate::expression::Expression;
-use crate::fault::{LineFault, Refusal, What};
-use crate::item::{Item, Kind, pattern_items};
 use crate::labels::Labels;
-use crate::line::shape_of_row;
-use crate::mnemonic::{Mnemonic, Pattern};
 use crate::value::{converted, held, label_column, value_of};
 use arrayvec::ArrayVec;
 use mw_bits::Bytes;
 use mw_decode::{Code, Insn, encode, is_illegal_form};
+use mw_syntax::{
+    Expression, Item, Kind, LineFault, Mnemonic, Pattern, Refusal, What, pattern_items,
+    shape_of_row,
+};
 use mw_tables::{Field, fields_of_layout, layout_at};
 use std::alloc::AllocError as NoMemory;
 

@@ -2,28 +2,19 @@
 #![tactic(auto)]
 
 mod assembler;
-mod data;
 mod disassembly;
-mod expression;
 mod fault;
 mod image;
 mod instruction;
-mod item;
 mod labels;
-mod line;
-mod mnemonic;
-mod operands;
 mod passes;
-mod reading;
-mod spelling;
-mod statement;
 #[cfg(test)]
 mod tests;
 mod value;
-mod values;
 #[cfg(test)]
 mod vectors;
 
 pub use assembler::assemble;
 pub use disassembly::{disassemble, print_statement};
-pub use fault::{AsmFault, What};
+pub use fault::AsmFault;
+pub use mw_syntax::What;

@@ -1,20 +1,18 @@
 ghost use Rattle.std.specs.Prelude.{◌≡◌, ◌+◌, ◌-◌, ◌^◌, ◌<◌, ◌≤◌, [], ◌∷◌, Ok, Err, IfOk, IfErr, IfSome, length};
 ghost use Rattle.std.specs.Option.{option_map_or};
 ghost use Rattle.mw_tables.specs.Rows.{row_count};
-ghost use Rattle.mw_asm.specs.Bounds.{IsExpression, IsPart, IsStatement};
+ghost use Rattle.mw_syntax.specs.Bounds.{IsExpression, IsPart, IsStatement};
 ghost use Rattle.mw_asm.specs.Faults.{IsAdded};
 ghost use Rattle.mw_asm.specs.Values.{unit_size, value_of};
 ghost use Rattle.mw_asm.specs.Assembled.{behind_bytes, behind_statement, code_size, first_line, first_pass, image_limit, lines_of, org_by, second_line, second_pass, source_limit};
 ghost use Rattle.mw_asm.specs.Passes.{IfBad, IsLabelled, IsPlaced, LeavesLabels, LiesInside, fault_at, start};
 
-use crate::expression::Expression;
-use crate::fault::{AsmFault, LineFault, Refusal, What};
+use crate::fault::AsmFault;
 use crate::image::add_statement;
 use crate::labels::Labels;
-use crate::line::parse_line;
-use crate::statement::{Label, Statement, Unit};
 use crate::value::{part, value_of};
 use mw_bits::Bytes;
+use mw_syntax::{Expression, Label, LineFault, Refusal, Statement, Unit, What, parse_line};
 use mw_tables::{PrefixKind, row_at};
 use std::alloc::Global;
 

@@ -2,12 +2,11 @@ ghost use Rattle.std.specs.Prelude.{◌≡◌, ◌+◌, ◌-◌, ◌^◌, ◌<�
 ghost use Rattle.std.specs.Int.{w64, cast_unsigned};
 ghost use Rattle.mw_tables.specs.Layouts.{is_readable};
 ghost use Rattle.mw_asm.specs.Values.{part_of, base_value, sum_value, value_of, label_column, displacement_of, converted, fits_field, if_fits};
-ghost use Rattle.mw_asm.specs.Bounds.{IsPart, IsBase};
+ghost use Rattle.mw_syntax.specs.Bounds.{IsPart, IsBase};
 ghost use Rattle.mw_asm.specs.Sizes.{IsSmall};
 
-use crate::expression::{Addend, Base, Expression};
-use crate::item::Kind;
 use crate::labels::Labels;
+use mw_syntax::{Addend, Base, Expression, Kind};
 use mw_tables::{Field, is_in_field};
 
 /// The bytes of a line from a place to another.

@@ -3,8 +3,8 @@ use Rattle.std.proofs.Common.{◌≡◌, ℕ, inl, inr, ◌+◌, ◌<◌, Bool, 
 use Rattle.std.proofs.lemmas.Bool.{lt-ltb, cases_lt}
 use Rattle.std.proofs.lemmas.List.{take_all, take-take, length-take}
 use Rattle.mw_io.specs.Outside.{content_of}
-use Rattle.mw_asm.specs.declared.fault.What.{What}
-use Rattle.mw_asm.specs.declared.fault.What.TheVariants.{TooLong}
+use Rattle.mw_syntax.specs.declared.fault.What.{What}
+use Rattle.mw_syntax.specs.declared.fault.What.TheVariants.{TooLong}
 use Rattle.mw_asm.specs.declared.fault.Place.{Place}
 use Rattle.mw_asm.specs.Assembled.{assembled, both_passes, first_pass, lines_of, last_of, place_past}
 use Rattle.mw_cli.specs.Answers.{RefusesAt}

@@ -3,8 +3,8 @@ use Rattle.std.specs.Prelude.{ℤ, FitsSigned}
 use Rattle.std.specs.Int.{w64}
 use Rattle.std.proofs.lemmas.Int.{to_z-of_z}
 use Rattle.std.proofs.lemmas.Bool.{ltb-false, ltb-true}
-use Rattle.mw_asm.specs.declared.item.Kind.TheVariants.{Register}
-use Rattle.mw_asm.specs.declared.item.Item.TheVariants.{Operand}
+use Rattle.mw_syntax.specs.declared.item.Kind.TheVariants.{Register}
+use Rattle.mw_syntax.specs.declared.item.Item.TheVariants.{Operand}
 use Rattle.mw_asm.specs.Disassembly.{operand_text}
 use Rattle.mw_asm.proofs.DisassemblyLemmas.{text-without, text-operand, text-comma, text-open, text-close, text-end, piece-more, piece-none}
 use Rattle.mw_asm.proofs.disassembly.add_operands.Goals as goal

@@ -1,6 +1,6 @@
 use Rattle.std.proofs.Common.{◌≡◌, ap, sym, ◌∙◌, Some, None, slice_get}
 use Rattle.std.specs.Option.{option_copied}
-use Rattle.mw_asm.specs.declared.item.Item.TheVariants.{Operand, Comma, Open, Close}
+use Rattle.mw_syntax.specs.declared.item.Item.TheVariants.{Operand, Comma, Open, Close}
 use Rattle.mw_asm.proofs.DisassemblyLemmas.{behind-none, behind-operand, behind-comma, behind-open, behind-close}
 use Rattle.mw_asm.proofs.disassembly.has_text.Goals as goal
 

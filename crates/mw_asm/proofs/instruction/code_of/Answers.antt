@@ -1,7 +1,7 @@
 use Rattle.std.proofs.Common.{length, sym, ap, ◌∙◌}
 use Rattle.mw_asm.specs.Values.{written_fields}
 use Rattle.mw_decode.specs.Rules.{is_illegal_form}
-use Rattle.mw_asm.specs.Lines.{shape_at}
+use Rattle.mw_syntax.specs.Lines.{shape_at}
 use Rattle.mw_asm.proofs.MeaningLemmas.{mnemonic_of-MeansRow}
 use Rattle.mw_asm.proofs.InstructionLemmas.{kinds-IsWritten, read-HasOperands, read-count, insn_of-IsInsn}
 use Rattle.mw_asm.proofs.instruction.code_of.Goals as goal

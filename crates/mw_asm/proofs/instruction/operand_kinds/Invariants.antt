@@ -1,5 +1,5 @@
 use Rattle.std.proofs.Common.{◌≡◌, ◌++◌, drop}
-use Rattle.mw_asm.specs.Items.{kinds_of}
+use Rattle.mw_syntax.specs.Items.{kinds_of}
 use Rattle.mw_asm.proofs.instruction.operand_kinds.Given as goal
 
 abbrev pub invariant-loop-item : goal.invariant-loop-item

@@ -1,5 +1,5 @@
 use Rattle.std.proofs.Common.{subst}
-use Rattle.mw_asm.specs.Bounds.{IsStatement, IsInstruction}
+use Rattle.mw_syntax.specs.Bounds.{IsStatement, IsInstruction}
 use Rattle.mw_asm.proofs.MeaningLemmas.{mnemonic_of-MeansRow}
 use Rattle.mw_asm.proofs.passes.behind_statement.Goals as goal
 
