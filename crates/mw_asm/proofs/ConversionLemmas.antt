@@ -1,5 +1,5 @@
 -- Values as 64-bit numbers, and the fields that hold them.
-use Rattle.std.proofs.Common.{◌≡◌, ℕ, ◌+◌, ◌-◌, ◌*◌, ◌^◌, ◌<◌, ◌≤◌, Bool, true, false, List, length, Some, to_z, of_z, refl, sym, ap, subst, ◌∙◌, arith, rules, inl, inr}
+use Rattle.std.proofs.Common.{◌≡◌, ℕ, ◌+◌, ◌-◌, ◌*◌, ◌^◌, ◌<◌, ◌≤◌, Bool, true, false, Some, to_z, of_z, refl, sym, ap, subst, ◌∙◌, arith, rules, inl, inr}
 use Rattle.std.specs.Prelude.{ℤ, pos, negsuc, ◌+ℤ◌, ◌≤ℤ◌, ◌<ℤ◌, neg_ℤ, unsigned_abs, FitsSigned}
 use Rattle.std.specs.Int.{w64, cast_unsigned}
 use Rattle.std.proofs.lemmas.Int.{ints, to_z-of_z}
@@ -11,10 +11,7 @@ use Rattle.mw_tables.specs.declared.layout.Field.{Field}
 use Rattle.mw_tables.specs.Layouts.{InRange, is_readable, width_of, operand_from, bits_from}
 use Rattle.mw_tables.proofs.FieldLaws.{InRange-bits, bits-InRange, is_readable-narrow, operand_from-unsigned}
 use Rattle.mw_tables.proofs.RangeLaws.{InRange-signed}
-use Rattle.mw_syntax.specs.declared.expression.Base.{Base}
-use Rattle.mw_syntax.specs.declared.expression.Base.TheVariants.{Number, Negative, Name, Here}
-use Rattle.mw_syntax.specs.Bounds.{IsBase}
-use Rattle.mw_asm.specs.Values.{fits_field, if_fits, label_column}
+use Rattle.mw_asm.specs.Values.{fits_field, if_fits}
 
 -- a negative number in 64 bits
 pub wrapped : (value sum : ℤ) → neg_ℤ (pos (2 ^ 64)) ≤ℤ value → value <ℤ pos 0 → sum ≡ value +ℤ pos (2 ^ 64) → unsigned_abs sum ≡ cast_unsigned w64 value
@@ -67,10 +64,3 @@ fits_field-fits f operand readable fits = InRange-fits f operand readable (bits-
 -- such an operand is held as it is
 pub if_fits-held : (f : Field) (operand : ℤ) → is_readable f ≡ true → fits_field f operand ≡ true → Some (to_z w64 (of_z w64 operand)) ≡ if_fits f (Some operand)
 if_fits-held f operand readable fits = ap (λ (z : ℤ). Some z) (to_z-of_z w64 operand (fits_field-fits f operand readable fits)) ∙ sym (rw fits)
-
--- the column of a label of the line is a column of 32 bits
-pub label_column-lt : (line : List ℕ) (base : Base) → length line < 2 ^ 32 - 1 → IsBase line base → label_column base < 2 ^ 32
-label_column-lt line (Number n) short is = omega arith
-label_column-lt line (Negative n) short is = omega arith
-label_column-lt line (Name from to) short is = omega (arith, is.some, is.within)
-label_column-lt line Here short is = omega arith

@@ -1,5 +1,6 @@
 -- The operands of an instruction as they are printed, and the lines of an image.
 use Rattle.std.proofs.Common.{◌≡◌, ℕ, suc, ◌+◌, ◌-◌, ◌*◌, ◌<◌, ◌≤◌, ◌==◌, Bool, true, false, not, if◌then◌else◌, List, [], ◌∷◌, ◌++◌, Some, None, length, drop, get_or, slice_get, codes, refl, sym, ap, ◌∙◌, append_assoc, arith}
+use Rattle.std.proofs.lemmas.Bool.{ne_eqb}
 use Rattle.std.proofs.lemmas.List.{append-nil, drop_more, drop_all}
 use Rattle.std.specs.Prelude.{ℤ, flat_map, is_some}
 use Rattle.std.proofs.Math.ListN.{length-append}
@@ -8,7 +9,6 @@ use Rattle.mw_syntax.specs.declared.item.Kind.{Kind}
 use Rattle.mw_syntax.specs.declared.item.Kind.TheVariants.{Register, Value, Target, Upper}
 use Rattle.mw_syntax.specs.declared.item.Item.{Item}
 use Rattle.mw_syntax.specs.declared.item.Item.TheVariants.{Operand, Comma, Open, Close}
-use Rattle.mw_syntax.proofs.ReadingLemmas.{eqb-other}
 use Rattle.mw_asm.specs.Disassembly.{operand_text, operands_text, behind_name, entry_text, entry_at, entries_from, word_count, disassembly}
 
 -- an operand has a byte
@@ -35,7 +35,7 @@ behind-operand [] kind zs given aa at = absurd (cc)
 behind-operand (Operand other ∷ items) kind [] given aa at = refl
 behind-operand (Operand other ∷ items) kind (z ∷ zs) given aa at =
     let some = operand-some other aa at z in
-    let there : (length (z ∷ zs) == 0) ≡ false = eqb-other (length (z ∷ zs)) 0 (λ e. omega (arith, e)) in
+    let there : (length (z ∷ zs) == 0) ≡ false = ne_eqb (length (z ∷ zs)) 0 (λ e. omega (arith, e)) in
     rw there (behind-some (operand_text other aa at z ++ operands_text items aa at zs) (omega (arith, length-append (operand_text other aa at z) (operands_text items aa at zs))))
 behind-operand (Comma ∷ items) kind zs given aa at = absurd (cc)
 behind-operand (Open ∷ items) kind zs given aa at = absurd (cc)

@@ -2,7 +2,6 @@
 use Rattle.std.proofs.Common.{◌≡◌, ℕ, ◌+◌, ◌^◌, ◌<◌, ◌≤◌, Bool, true, false, Option, Some, None, if◌then◌else◌, length, refl, sym, ap, ◌∙◌, subst, arith}
 use Rattle.std.specs.Prelude.{IfSome, IsSomeAnd, IsTrue, slice_get, nat_lt}
 use Rattle.std.specs.Option.{option_map_or}
-use Rattle.std.specs.Hash.{le_bytes}
 use Rattle.std.proofs.lemmas.Bool.{and_parts, eqb-true}
 use Rattle.std.proofs.lemmas.List.{append-nil}
 use Rattle.mw_tables.specs.declared.row.PrefixKind.{PrefixKind}
@@ -23,7 +22,7 @@ use Rattle.mw_asm.specs.Assembled.{code_size, image_limit}
 use Rattle.mw_asm.specs.Disassembly.{Entry, statement_of, long_entry, entry_by, entry_with}
 use Rattle.mw_asm.specs.Again.{encoded_entry, IsExactIfClear}
 use Rattle.mw_asm.proofs.PrintedForms.{GivesBytes}
-use Rattle.mw_asm.proofs.SourceTextLemmas.{long-gives}
+use Rattle.mw_asm.proofs.SourceTextLemmas.{long-gives, long-length}
 use Rattle.mw_asm.proofs.AgainLemmas.{insn-length, statement-gives}
 
 -- how many bytes a word has with its suffix
@@ -66,10 +65,6 @@ place_of-size word (Some suffix) place e = behind-size word suffix place e
 decoded-size : (word : ℕ) (suffix : Option ℕ) (insn : Insn) → decode_of word suffix ≡ Is insn → code_size insn.row ≡ size_by suffix
 decoded-size word suffix insn is = place_of-size word suffix insn.row (insn_at-row (code_of word suffix) (place_of word suffix) insn (decode_of-found word suffix insn is))
 
-word-length : (word : ℕ) → length (word_bytes word) ≡ 4
-unfolding le_bytes
-word-length word = refl
-
 -- what an entry for a word at an address, with this suffix or alone, has
 pub record IsEntry (at word : ℕ) (suffix : Option ℕ) (entry : Entry) : Type 0 where
   pub place : entry.at ≡ at
@@ -85,7 +80,7 @@ long-IsEntry at word suffix = record {
   place = refl;
   word_same = refl;
   suffix_same = tt;
-  size = word-length word;
+  size = long-length word;
   gives = λ below room. long-gives at word below room;
   exact = λ below clear. sym (append-nil (word_bytes word));
 }

@@ -76,9 +76,3 @@ zeros-more old new zeros whole left piece all within is same =
     ∙ append_assoc old (replicate piece 0) (replicate (left - piece) 0)
     ∙ ap (λ bs. old ++ bs) (replicate-append-replicate piece (left - piece) 0 ∙ ap (λ n. replicate n 0) parts)
     ∙ same
-
--- no zero is left
-pub zeros-end : (old whole : List ℕ) (left : ℕ) → left ≤ 0 → old ++ replicate left 0 ≡ whole → old ≡ whole
-zeros-end old whole left none same =
-    let is : left ≡ 0 = omega arith in
-    sym (append-nil old) ∙ ap (λ n. old ++ replicate n 0) (sym is) ∙ same

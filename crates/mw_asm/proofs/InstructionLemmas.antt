@@ -43,10 +43,6 @@ abbrev pub before : List ℤ → Result (List ℤ) Refusal → Result (List ℤ)
 before front (Ok others) = Ok (front ++ others)
 before front (Err refused) = Err refused
 
-pub before-none : (r : Result (List ℤ) Refusal) → before [] r ≡ r
-before-none (Ok others) = refl
-before-none (Err refused) = refl
-
 before-ok : (front : List ℤ) (operand : ℤ) (r : Result (List ℤ) Refusal) → before (front ++ operand ∷ []) r ≡ before front (and_operands (Ok operand) r)
 before-ok front operand (Ok others) = ap Ok (append_assoc front (operand ∷ []) others)
 before-ok front operand (Err refused) = refl

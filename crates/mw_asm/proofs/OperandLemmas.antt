@@ -1,5 +1,5 @@
--- The operands of an instruction that aren't refused: as many are read as are written, and they fit their fields.
-use Rattle.std.proofs.Common.{◌≡◌, ℕ, suc, ◌+◌, ◌^◌, length, Bool, true, false, cond, List, [], ◌∷◌, Option, Some, None, Result, Ok, Err, refl, sym, ap, subst, ◌∙◌, arith}
+-- The operands of an instruction that aren't refused fit their fields.
+use Rattle.std.proofs.Common.{◌≡◌, ℕ, ◌^◌, length, Bool, true, List, [], ◌∷◌, Option, Some, None, Result, Ok, Err, refl, sym, subst, arith}
 use Rattle.std.specs.Prelude.{ℤ}
 use Rattle.std.proofs.lemmas.Bool.Decides.{Decides-int_eq}
 use Rattle.std.proofs.lemmas.Nat.{mod_below, pow_pos}
@@ -9,12 +9,6 @@ use Rattle.mw_tables.specs.Layouts.{width_of, bits_from, InRange, HasOperands}
 use Rattle.mw_syntax.specs.declared.expression.Expression.{Expression}
 use Rattle.mw_syntax.specs.declared.fault.Refusal.{Refusal}
 use Rattle.mw_syntax.specs.declared.item.Kind.{Kind}
-use Rattle.mw_syntax.specs.declared.expression.Read.{Read}
-use Rattle.mw_syntax.specs.declared.item.Item.{Item}
-use Rattle.mw_syntax.specs.declared.item.Item.TheVariants.{Operand, Comma, Open, Close}
-use Rattle.mw_text.specs.declared.token.Token.{Token}
-use Rattle.mw_syntax.specs.Expressions.{kind_at}
-use Rattle.mw_syntax.specs.Items.{kinds_of, operand_at, is_mark, with_first, and_behind, operands_at}
 use Rattle.mw_asm.specs.Values.{Placed, value_of, converted, fits_field, if_fits, in_range, operand_by, and_operands, operands_of}
 
 pub fits_field-InRange : (f : Field) (operand : ℤ) → fits_field f operand ≡ true → InRange f operand
@@ -58,32 +52,3 @@ operands_of-HasOperands labels at line aa [] [] (f ∷ fs) operands p q e = absu
 operands_of-HasOperands labels at line aa [] (k ∷ ks) fs operands p q e = absurd (omega arith)
 operands_of-HasOperands labels at line aa (x ∷ es) [] fs operands p q e = absurd (omega arith)
 operands_of-HasOperands labels at line aa (x ∷ es) (k ∷ ks) [] operands p q e = absurd (omega arith)
-
-end_count : (first : Bool) (place : ℕ) (expressions : List Expression) → cond first (Ok []) (Err place) ≡ Ok expressions → length expressions ≡ 0
-end_count true place expressions e =
-    let same : [] ≡ expressions = cc in
-    ap length (sym same)
-end_count false place expressions e = absurd (cc)
-
-mark_count : (first : Bool) (place count : ℕ) (rest : Result (List Expression) ℕ) (expressions : List Expression) → ((es : List Expression) → rest ≡ Ok es → length es ≡ count) → cond first rest (Err place) ≡ Ok expressions → length expressions ≡ count
-mark_count true place count rest expressions later e = later expressions e
-mark_count false place count rest expressions later e = absurd (cc)
-
-first_count : (expression : Expression) (count : ℕ) (rest : Result (List Expression) ℕ) (expressions : List Expression) → ((es : List Expression) → rest ≡ Ok es → length es ≡ count) → with_first expression rest ≡ Ok expressions → length expressions ≡ suc count
-first_count expression count (Ok es) expressions later e =
-    let same : expression ∷ es ≡ expressions = cc in
-    ap length (sym same) ∙ ap suc (later es refl)
-first_count expression count (Err place) expressions later e = absurd (cc)
-
-behind_count : (count : ℕ) (read : Result Read ℕ) (others : ℕ → Result (List Expression) ℕ) (expressions : List Expression) → ((next : ℕ) (es : List Expression) → others next ≡ Ok es → length es ≡ count) → and_behind read others ≡ Ok expressions → length expressions ≡ suc count
-behind_count count (Ok read) others expressions later e = first_count read.expression count (others read.next) expressions (later read.next) e
-behind_count count (Err place) others expressions later e = absurd (cc)
-
--- as many operands are read as are written
-pub operands_at-length : (items : List Item) (line : List ℕ) (tokens : List Token) (place : ℕ) (expressions : List Expression) → operands_at items line tokens place ≡ Ok expressions → length expressions ≡ length (kinds_of items)
-unfolding operands_at
-operands_at-length [] line tokens place es e = end_count _ place es e
-operands_at-length (Operand kind ∷ items) line tokens place es e = behind_count (length (kinds_of items)) (operand_at kind line tokens place) (operands_at items line tokens) es (operands_at-length items line tokens) e
-operands_at-length (Comma ∷ items) line tokens place es e = mark_count (is_mark Comma (kind_at tokens place)) place (length (kinds_of items)) (operands_at items line tokens (place + 1)) es (operands_at-length items line tokens (place + 1)) e
-operands_at-length (Open ∷ items) line tokens place es e = mark_count (is_mark Open (kind_at tokens place)) place (length (kinds_of items)) (operands_at items line tokens (place + 1)) es (operands_at-length items line tokens (place + 1)) e
-operands_at-length (Close ∷ items) line tokens place es e = mark_count (is_mark Close (kind_at tokens place)) place (length (kinds_of items)) (operands_at items line tokens (place + 1)) es (operands_at-length items line tokens (place + 1)) e

@@ -215,12 +215,6 @@ read-from (Close ∷ items) aa at zs base place before line front tokens separat
     mark-read Close CloseToken 41 base place (operands_text items aa at zs) before line (operands_tokens items aa at zs (base + 1)) front tokens (operands_at items line tokens (place + 1)) (Err place) (operands_expressions items aa at zs (base + 1)) refl is are short long
     (λ beyond past. read-from items aa at zs (base + 1) (place + 1) beyond line past tokens separated writable)
 
--- operands are read from their tokens, behind other bytes and other tokens
-pub operands-read : (items : List Item) (aa : Bool) (at : ℕ) (zs : List ℤ) (before : List ℕ) (front : List Token) → is_separated items ≡ true → AreWritable (kinds_of items) zs
-    → operands_at items (before ++ operands_text items aa at zs) (front ++ operands_tokens items aa at zs (length before)) (length front) ≡ Ok (operands_expressions items aa at zs (length before))
-operands-read items aa at zs before front separated writable =
-    read-from items aa at zs (length before) (length front) before (before ++ operands_text items aa at zs) front (front ++ operands_tokens items aa at zs (length before)) separated writable refl refl refl refl
-
 -- items have a text
 items-some : (item : Item) (items : List Item) (aa : Bool) (at : ℕ) (zs : List ℤ) → AreWritable (kinds_of (item ∷ items)) zs → 0 < length (operands_text (item ∷ items) aa at zs)
 unfolding operands_text

@@ -109,7 +109,7 @@ long-line : (word : ℕ) → word < 2 ^ 32 → line_of (long_statement word) ≡
 unfolding line_of expression_at values_at
 long-line word below = ap (line_in (long_statement word)) (name-number-tokens (codes ".long") (codes "0x" ++ hex 8 word) word (omega arith) refl (some-hex word) (hex-piece 8 word [] (omega arith) (omega arith) (omega arith) refl))
 
-long-length : (word : ℕ) → length (word_bytes word) ≡ 4
+pub long-length : (word : ℕ) → length (word_bytes word) ≡ 4
 unfolding le_bytes
 long-length word = refl
 

@@ -1,4 +1,4 @@
--- What an answer says of a definition where want of memory is an answer too, which says nothing.
+-- What an answer says of the bytes that a definition gives, where want of memory is an answer too, which says nothing.
 use Rattle.std.specs.Prelude.{◌≡◌, ℕ, ⊤, List, Result, Ok, Err}
 use Rattle.mw_syntax.specs.declared.fault.Refusal.{Refusal}
 use Rattle.mw_syntax.specs.declared.fault.LineFault.{LineFault}

@@ -1,4 +1,4 @@
--- In reading order: expressions, operand lists, mnemonics and their index, a line by itself, what is known of its parts, values and their bytes, what answers say of them, labels, and a whole source with what its two passes say of it, the disassembly of an image, and what its statements assemble to.
+-- In reading order, behind mw_syntax's: values and their bytes, what answers say of them, how large they are, labels, a whole source, what the answers of its two passes say, what it means, the disassembly of an image, and what its statements assemble to.
 pub mod Values
 pub mod Faults
 pub mod Sizes

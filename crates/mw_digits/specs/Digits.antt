@@ -5,17 +5,17 @@ use Rattle.std.specs.Prelude.{ℕ, zero, suc, ◌+◌, ◌/◌, ◌%◌, ◌^◌
 abbrev pub hex_digit : ℕ → ℕ
 hex_digit n = if nat_lt n 10 then 48 + n else 87 + n
 
--- a number in so many hexadecimal digits
+-- the lowest so many hexadecimal digits of a number, the highest of them first
 unfoldable pub hex : ℕ → ℕ → List ℕ
 hex zero n = []
 hex (suc k) n = hex_digit (n / 16 ^ k % 16) ∷ hex k n
 
--- how many hexadecimal digits a number has, of so many at most and one at least
+-- how many hexadecimal digits a number has: one at least, and at most one more than so many
 unfoldable pub digits_of : ℕ → ℕ → ℕ
 digits_of zero n = 1
 digits_of (suc k) n = if nat_lt n (16 ^ suc k) then digits_of k n else suc k + 1
 
--- a number in hexadecimal digits without leading zeros
+-- a number of 64 bits in hexadecimal digits behind `0x`, without leading zeros
 abbrev pub short_hex : ℕ → List ℕ
 short_hex n = codes "0x" ++ hex (digits_of 15 n) n
 

@@ -31,7 +31,7 @@ pub fn write_hex(digits: &mut [u8], number: u64)
     }
 }
 
-/// The sixteen hexadecimal digits of a number of 64 bits, in lower case.
+/// The sixteen hexadecimal digits of a number of 64 bits, the highest of them first, in lower case.
 pub fn hexadecimal(number: u64) -> [u8; MOST_DIGITS]
     ensures { result ≡ hex 16 number }
 {
@@ -40,8 +40,8 @@ pub fn hexadecimal(number: u64) -> [u8; MOST_DIGITS]
     digits
 }
 
-/// Appends the number in so many hexadecimal digits, at most 16: its lowest ones, with leading zeros. The
-/// only error is want of memory.
+/// Appends the number in so many hexadecimal digits, at most 16: its lowest ones, the highest of them first,
+/// in lower case, with leading zeros. The only error is want of memory.
 pub fn add_hex(text: &mut Bytes, digits: usize, number: u64) -> Result<(), NoMemory>
     requires { digits ≤ 16 }
     ensures { OnOk result (text.new ≡ text.old ++ hex digits number) }
@@ -65,8 +65,8 @@ fn count_digits(number: u64) -> usize
     most + 1
 }
 
-/// Appends the number in hexadecimal digits behind `0x`, without leading zeros. The only error is want of
-/// memory.
+/// Appends the number in hexadecimal digits behind `0x`, in lower case, without leading zeros, one digit at
+/// least. The only error is want of memory; the list may then have grown by `0x`.
 pub fn add_short_hex(text: &mut Bytes, number: u64) -> Result<(), NoMemory>
     ensures { OnOk result (text.new ≡ text.old ++ short_hex number) }
 {

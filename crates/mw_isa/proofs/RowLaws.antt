@@ -7,6 +7,7 @@ use Rattle.mw_tables.specs.declared.layout.Field.{Field}
 use Rattle.mw_tables.specs.declared.layout.Layout.{Layout}
 use Rattle.mw_tables.specs.Rows.{lines, layouts}
 use Rattle.mw_tables.specs.Layouts.{fields_of, width_of, operand_at, InRange, HasOperands}
+use Rattle.mw_tables.proofs.FieldLaws.{HasOperands-length}
 use Rattle.mw_decode.specs.declared.insn.Insn.{Insn}
 use Rattle.mw_decode.specs.Decode.{IsInsn}
 use Rattle.mw_isa.specs.declared.operation.Operation.{Operation}
@@ -52,13 +53,6 @@ fits-at (operation ∷ os) (layout ∷ ls) zero o l all at there =
     let b : layout ≡ l = cc in
     rw (sym a, sym b) (and_parts _ _ all).0
 fits-at (operation ∷ os) (layout ∷ ls) (suc place) o l all at there = fits-at os ls place o l (and_parts _ _ all).1 at there
-
--- there are as many operands as fields
-HasOperands-length : (fs : List Field) (zs : List ℤ) → HasOperands fs zs → length zs ≡ length fs
-HasOperands-length [] [] h = refl
-HasOperands-length [] (z ∷ zs) h = absurd h
-HasOperands-length (f ∷ fs) [] h = absurd h
-HasOperands-length (f ∷ fs) (z ∷ zs) h = ap suc (HasOperands-length fs zs h.1)
 
 -- an operand in a register's field is below 32
 below-in : (f : Field) (z : ℤ) → is_register_field f ≡ true → InRange f z → cast_unsigned w64 z < 32

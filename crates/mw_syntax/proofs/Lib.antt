@@ -1,6 +1,5 @@
-pub mod ReadingLemmas
-pub mod ValuesLemmas
+mod ReadingLemmas
+mod ValuesLemmas
 pub mod LineLemmas
-pub mod ItemLemmas
 pub mod MnemonicLemmas
 mod IndexLemmas

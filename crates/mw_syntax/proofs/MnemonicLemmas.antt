@@ -1,4 +1,4 @@
--- What a name that is a mnemonic means: it is one spelling, and its row has what it needs.
+-- What a name that is a mnemonic means: it is one of the spellings, no two of which have one name.
 use Rattle.std.proofs.Common.{◌≡◌, ℕ, zero, suc, ◌+◌, ◌*◌, slice_get, Bool, true, false, not, ◌&&◌, cond, List, [], ◌∷◌, Option, Some, None, map, refl, sym, ap, ◌∙◌}
 use Rattle.std.specs.Prelude.{◌==◌, bytes_eq, option_map, IsSomeAnd}
 use Rattle.std.specs.List.{find, list_all}

@@ -1,8 +1,8 @@
 -- Expressions that were read, in front of those behind them.
-use Rattle.std.proofs.Common.{◌≡◌, ℕ, suc, ◌+◌, ◌<◌, ◌≤◌, ◌==◌, true, false, List, [], ◌∷◌, ◌++◌, Result, Ok, Err, length, drop, get_or, if◌then◌else◌, ◌≢◌, refl, sym, ◌∙◌, ap, inl, inr, append_assoc, eq-eqb}
+use Rattle.std.proofs.Common.{◌≡◌, ℕ, suc, ◌+◌, ◌<◌, ◌≤◌, true, false, List, [], ◌∷◌, ◌++◌, Result, Ok, Err, length, drop, get_or, if◌then◌else◌, ◌≢◌, refl, sym, ◌∙◌, ap, inl, inr, append_assoc, eq-eqb}
 use mathlib.Core.Logic.{◌⊎◌}
 use Rattle.std.proofs.lemmas.List.{append-nil, drop_more, at_drop_all}
-use Rattle.std.proofs.lemmas.Bool.Decides.{eqb_tells}
+use Rattle.std.proofs.lemmas.Bool.{ne_eqb}
 use Rattle.mw_text.specs.declared.token.Token.{Token}
 use Rattle.mw_syntax.specs.declared.expression.Expression.{Expression}
 use Rattle.mw_syntax.specs.declared.expression.Read.{Read}
@@ -16,10 +16,6 @@ use Rattle.mw_syntax.specs.Items.{kinds_of, is_mark, operand_at, with_first, and
 abbrev pub behind : List Expression → Result (List Expression) ℕ → Result (List Expression) ℕ
 behind front (Ok others) = Ok (front ++ others)
 behind front (Err place) = Err place
-
-pub behind-none : (r : Result (List Expression) ℕ) → behind [] r ≡ r
-behind-none (Ok others) = refl
-behind-none (Err place) = refl
 
 pub behind-with_first : (front : List Expression) (e : Expression) (r : Result (List Expression) ℕ) → behind (front ++ e ∷ []) r ≡ behind front (with_first e r)
 behind-with_first front e (Ok others) = ap Ok (append_assoc front (e ∷ []) others)
@@ -74,10 +70,6 @@ pub mark-read : (items : List Item) (i : ℕ) (d : Item) (line : List ℕ) (toke
 mark-read items i d line tokens place front whole lt is read same =
     sym (rw (operands_at-mark items i d line tokens place lt is, read) refl) ∙ same
 
--- numbers that differ
-pub eqb-other : (a b : ℕ) → a ≢ b → (a == b) ≡ false
-eqb-other a b differ = elim (eqb_tells a b) [ inl h ↦ absurd (differ h.1) | inr h ↦ h.0 ]
-
 -- behind the last item, at the line's end
 pub operands-end : (items : List Item) (i : ℕ) (line : List ℕ) (tokens : List Token) (place : ℕ) (front : List Expression) (whole : Result (List Expression) ℕ) →
     length items ≤ i → place ≡ length tokens → behind front (operands_at (drop i items) line tokens place) ≡ whole → whole ≡ Ok front
@@ -90,7 +82,7 @@ pub operands-more : (items : List Item) (i : ℕ) (line : List ℕ) (tokens : Li
     length items ≤ i → place ≢ length tokens → behind front (operands_at (drop i items) line tokens place) ≡ whole → whole ≡ Err place
 unfolding operands_at
 operands-more items i line tokens place front whole past at same =
-    sym same ∙ at_drop_all (λ left. behind front (operands_at left line tokens place)) items i past ∙ rw (eqb-other place (length tokens) at) refl
+    sym same ∙ at_drop_all (λ left. behind front (operands_at left line tokens place)) items i past ∙ rw (ne_eqb place (length tokens) at) refl
 
 -- an operand is counted
 pub kinds-operand : (items : List Item) (i : ℕ) (d : Item) (kind : Kind) → i < length items → get_or items i d ≡ Operand kind → length (kinds_of (drop i items)) ≡ suc (length (kinds_of (drop (i + 1) items)))
@@ -107,7 +99,3 @@ kinds-first (Operand kind) items (inr (inr e)) = cc
 -- a mark isn't
 pub kinds-mark : (items : List Item) (i : ℕ) (d : Item) → i < length items → IsMark (get_or items i d) → length (kinds_of (drop i items)) ≡ length (kinds_of (drop (i + 1) items))
 kinds-mark items i d lt is = rw (drop_more items i d lt) (ap length (kinds-first (get_or items i d) (drop (i + 1) items) is))
-
--- no operand is left behind the last item
-pub kinds-end : (items : List Item) (i : ℕ) → length items ≤ i → length (kinds_of (drop i items)) ≡ 0
-kinds-end items i past = at_drop_all (λ left. length (kinds_of left)) items i past

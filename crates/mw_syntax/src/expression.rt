@@ -5,8 +5,13 @@ pub enum Base {
     Number(u64),
     /// A number behind `-`.
     Negative(u64),
-    /// A label: its name is the line's bytes from `from` to `to`.
-    Name { from: u32, to: u32 },
+    /// A label.
+    Name {
+        /// How many bytes of the line stand before its name.
+        from: u32,
+        /// How many bytes of the line stand before the name's end.
+        to: u32,
+    },
     /// `.`, the statement's address.
     Here,
 }

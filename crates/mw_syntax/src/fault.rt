@@ -1,4 +1,5 @@
-/// What a refused place of a source is.
+/// What a refused place of a source is. A line by itself is refused as one of the first three alone; the
+/// others are the assembler's.
 #[derive(Clone, Copy, Debug, PartialEq, Eq)]
 pub enum What {
     /// No token stands there.

@@ -86,7 +86,7 @@ fn read_data(
     }
 }
 
-/// The list of operands of the row at a place.
+/// The list of operands of the row at a place of the table, or the empty one where there is no such row.
 pub fn shape_of_row(place: u16) -> Shape
     ensures { result ≡ shape_at place }
 {
@@ -217,8 +217,9 @@ fn parse_tokens(alloc: Global, line: &[u8], tokens: &[Token]) -> Result<Line, Li
     }
 }
 
-/// A line by itself, which is given without its line feed: its label and its statement, or the first thing
-/// that can't stand there.
+/// Reads a line by itself, which is given without its line feed and has fewer than 2^32 - 1 bytes: its label
+/// and its statement. The error is the first refused column, counted from 1, with what is refused there, or
+/// want of memory.
 #[tactic(auto, unfolding(crate::specs::Lines::line_of))]
 pub fn parse_line(alloc: Global, line: &[u8]) -> Result<Line, LineFault>
     requires { length line.now < 2 ^ 32 - 1 }

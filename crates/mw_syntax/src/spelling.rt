@@ -393,9 +393,10 @@ fn all_spelled() -> &'static [Spelled]
     &SPELLED
 }
 
-/// What a name means, if it is a mnemonic.
+/// What a name means, if it is a mnemonic. Names are in lower case, and no two mnemonics have one.
 pub fn find_mnemonic(name: &[u8]) -> Option<Mnemonic>
-    ensures { result ≡ mnemonic_of name.now }
+    ensures value { result ≡ mnemonic_of name.now }
+    ensures distinct { AreDistinct }
 {
     let entries = all_spelled();
     let compare = |entry: &Spelled| -> Ordering

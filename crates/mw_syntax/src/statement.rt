@@ -16,26 +16,34 @@ pub enum Unit {
     BigQuad,
 }
 
-/// A statement; `name` is the column of its name.
+/// A statement. Columns are counted from 1.
 #[derive(Drop)]
 pub enum Statement {
     /// None.
     Nothing,
     /// `.org`: the address moves up.
     Org {
+        /// The column of `.org`.
         name: u32,
+        /// To where.
         to: Expression,
     },
     /// Data.
     Data {
+        /// The column of the directive.
         name: u32,
+        /// What each value gives.
         unit: Unit,
+        /// The values, in order.
         values: Values,
     },
     /// An instruction, with the operands that are written.
     Instruction {
+        /// The column of the mnemonic.
         name: u32,
+        /// What the mnemonic means.
         mnemonic: Mnemonic,
+        /// The operands, in order.
         operands: ArrayVec<Expression, 6>,
     },
 }

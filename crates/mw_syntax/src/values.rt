@@ -21,7 +21,7 @@ impl Model for Values {
 
 impl Values {
     /// No expression. It takes no memory.
-    pub fn new(alloc: Global) -> Values
+    pub(crate) fn new(alloc: Global) -> Values
         ensures { result ≡ [] }
     {
         Values {
@@ -29,8 +29,8 @@ impl Values {
         }
     }
 
-    /// Appends an expression.
-    pub fn push(&mut self, expression: Expression) -> Result<(), NoMemory>
+    /// Appends an expression. The only error is want of memory.
+    pub(crate) fn push(&mut self, expression: Expression) -> Result<(), NoMemory>
         ensures { OnOk result (self.new ≡ self.old ++ expression ∷ []) }
     {
         self.items.push(expression)?;

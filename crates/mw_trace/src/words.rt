@@ -4,7 +4,7 @@ ghost use Rattle.mw_isa.specs.Text.{hex_bytes};
 
 use hex::encode_to_slice;
 use mw_bits::Bytes;
-use mw_digits::write_hex;
+use mw_digits::{add_hex as add_digits, write_hex};
 use std::alloc::AllocError as NoMemory;
 
 /// The most hexadecimal digits that a number of 64 bits has.
@@ -44,22 +44,13 @@ pub fn add_hex_bytes(text: &mut Bytes, bytes: &[u8]) -> Result<(), NoMemory>
     text.add(&word[..=last])
 }
 
-/// Appends a byte in two hexadecimal digits.
-fn add_byte(text: &mut Bytes, byte: u8) -> Result<(), NoMemory>
-    ensures { OnOk result (text.new ≡ text.old ++ hex 2 byte) }
-{
-    let mut digits = [0; 2];
-    write_hex(&mut digits, u64::from(byte));
-    text.add(&digits)
-}
-
 /// Appends bytes in two hexadecimal digits each, however many they are.
 #[tactic(auto, unfolding(mw_isa::specs::Text::hex_bytes))]
 pub fn add_all_bytes(text: &mut Bytes, bytes: &[u8]) -> Result<(), NoMemory>
     ensures { OnOk result (text.new ≡ text.old ++ hex_bytes bytes.now) }
 {
     for byte in bytes {
-        add_byte(text, *byte)?;
+        add_digits(text, 2, u64::from(*byte))?;
     }
     Ok(())
 }
