@@ -108,51 +108,36 @@ pub fn items_of_shape(shape: Shape) -> &'static [Item]
     ensures { result.now ≡ items_of shape }
 {
     match shape {
-        Shape::RtRaSi => &TWO_REGISTERS_VALUE,
-        Shape::BfLRaSi => &TWO_VALUES_REGISTER_VALUE,
-        Shape::BfLRaUi => &TWO_VALUES_REGISTER_VALUE,
+        Shape::RtRaSi | Shape::RaRsUi | Shape::RaRsSh => &TWO_REGISTERS_VALUE,
+        Shape::BfLRaSi | Shape::BfLRaUi => &TWO_VALUES_REGISTER_VALUE,
         Shape::ToRaSi => &VALUE_REGISTER_VALUE,
-        Shape::RaRsUi => &TWO_REGISTERS_VALUE,
-        Shape::RtD => &REGISTER_VALUE,
+        Shape::RtD
+        | Shape::RtFxm
+        | Shape::RtBfa
+        | Shape::RtBi
+        | Shape::RsL
+        | Shape::RtSpr
+        | Shape::RtTbr
+        | Shape::RtL => &REGISTER_VALUE,
         Shape::Target => &TARGET_ITEMS,
         Shape::BoBiTarget => &TWO_VALUES_TARGET,
-        Shape::BoBiBh => &THREE_VALUES,
-        Shape::BtBaBb => &THREE_VALUES,
+        Shape::BoBiBh | Shape::BtBaBb => &THREE_VALUES,
         Shape::BfBfa => &TWO_VALUES,
-        Shape::RaRsShMbMe => &TWO_REGISTERS_THREE_VALUES,
+        Shape::RaRsShMbMe | Shape::RbRsRicPrsR => &TWO_REGISTERS_THREE_VALUES,
         Shape::RaRsRbMbMe => &THREE_REGISTERS_TWO_VALUES,
-        Shape::RaRsShMb => &TWO_REGISTERS_TWO_VALUES,
-        Shape::RaRsShMe => &TWO_REGISTERS_TWO_VALUES,
-        Shape::RaRsRbMb => &THREE_REGISTERS_VALUE,
-        Shape::RaRsRbMe => &THREE_REGISTERS_VALUE,
+        Shape::RaRsShMb | Shape::RaRsShMe | Shape::RtRaSiR => &TWO_REGISTERS_TWO_VALUES,
+        Shape::RaRsRbMb | Shape::RaRsRbMe | Shape::RtRaRbCy | Shape::RtRaRbBc =>
+            &THREE_REGISTERS_VALUE,
         Shape::RtRaRbRc => &FOUR_REGISTERS,
-        Shape::RtRaRb => &THREE_REGISTERS,
-        Shape::RtRa => &TWO_REGISTERS,
-        Shape::RtRaRbCy => &THREE_REGISTERS_VALUE,
-        Shape::RaRsRb => &THREE_REGISTERS,
-        Shape::RaRsSh => &TWO_REGISTERS_VALUE,
-        Shape::RaRs => &TWO_REGISTERS,
+        Shape::RtRaRb | Shape::RaRsRb => &THREE_REGISTERS,
+        Shape::RtRa | Shape::RaRs | Shape::RaRb => &TWO_REGISTERS,
         Shape::BfLRaRb => &TWO_VALUES_TWO_REGISTERS,
-        Shape::ToRaRb => &VALUE_TWO_REGISTERS,
-        Shape::RtRaRbBc => &THREE_REGISTERS_VALUE,
+        Shape::ToRaRb | Shape::BfRaRb => &VALUE_TWO_REGISTERS,
         Shape::Rt => &REGISTER_ITEMS,
-        Shape::RtFxm => &REGISTER_VALUE,
-        Shape::FxmRs => &VALUE_REGISTER,
-        Shape::RtBfa => &REGISTER_VALUE,
-        Shape::RtBi => &REGISTER_VALUE,
-        Shape::BfRaRb => &VALUE_TWO_REGISTERS,
-        Shape::Bf => &VALUE_ITEMS,
+        Shape::FxmRs | Shape::SprRs => &VALUE_REGISTER,
+        Shape::Bf | Shape::L => &VALUE_ITEMS,
         Shape::RtDRa => &DISPLACED,
-        Shape::RaRb => &TWO_REGISTERS,
         Shape::Empty => &NOTHING,
-        Shape::L => &VALUE_ITEMS,
-        Shape::RsL => &REGISTER_VALUE,
-        Shape::RbRsRicPrsR => &TWO_REGISTERS_THREE_VALUES,
-        Shape::RtSpr => &REGISTER_VALUE,
-        Shape::SprRs => &VALUE_REGISTER,
-        Shape::RtTbr => &REGISTER_VALUE,
-        Shape::RtL => &REGISTER_VALUE,
-        Shape::RtRaSiR => &TWO_REGISTERS_TWO_VALUES,
         Shape::RtDRaR => &DISPLACED_AND_VALUE,
     }
 }
