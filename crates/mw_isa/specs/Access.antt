@@ -1,8 +1,7 @@
 -- An access to storage in real mode (Book I, storage operands; Book II, atomic update, cache management and the
 -- reservation; Book III, real addressing). Which accesses raise an alignment interrupt, and the blocks of 64 bytes, are
 -- this board's own choice; Book III has what the interrupt is.
-use Rattle.std.specs.Prelude.{ℕ, ◌≡◌, ◌+◌, ◌-◌, ◌*◌, ◌/◌, ◌%◌, ◌^◌, ◌==◌, Bool, true, false, not, ◌&&◌, ◌||◌, if◌then◌else◌, nat_lt, nat_le, List, [], ◌∷◌, take, replicate, Option, Some, None, slice_set}
-use Rattle.std.specs.Option.{option_map_or}
+use Rattle.std.specs.Prelude.{ℕ, ◌≡◌, ◌+◌, ◌-◌, ◌*◌, ◌/◌, ◌%◌, ◌^◌, ◌==◌, Bool, true, false, not, ◌&&◌, ◌||◌, if◌then◌else◌, nat_lt, nat_le, List, [], ◌∷◌, take, replicate, Option, Some, None}
 use Rattle.mw_bits.specs.Fields.{sext_of}
 use Rattle.mw_bus.specs.Memory.{bytes_at, laid, number_of, bytes_of}
 use Rattle.mw_soc.specs.DeviceData.{DeviceData}
@@ -18,9 +17,13 @@ use Rattle.mw_isa.specs.declared.memory.MemWhat.TheVariants.{Load, Store, Condit
 use Rattle.mw_isa.specs.declared.memory.MemOp.{MemOp}
 use Rattle.mw_isa.specs.declared.outcome.Outcome.{Outcome}
 use Rattle.mw_isa.specs.declared.outcome.Outcome.TheVariants.{Done, Memory}
+use Rattle.mw_isa.specs.declared.outcome.Target.{Target}
+use Rattle.mw_isa.specs.declared.slot.Slot.{Slot}
+use Rattle.mw_isa.specs.declared.slot.Slot.TheVariants.{Gpr, CrField}
 use Rattle.mw_isa.specs.declared.regs.Regs.{Regs}
 use Rattle.mw_isa.specs.State.{State}
 use Rattle.mw_isa.specs.Fetch.{real_of}
+use Rattle.mw_isa.specs.Slots.{known, set_targets}
 
 -- the lengths that an access can have: 1, 2, 4 or 8 bytes; 64 for zeros, and 1 where nothing is loaded or stored
 abbrev pub is_sized_by : MemWhat → ℕ → Bool
@@ -87,18 +90,6 @@ is_built_access op = not (raises_alignment op) && not (reaches_controller op)
 abbrev pub block_of : MemOp → ℕ
 block_of op = real_byte op / 64
 
--- a general purpose register with a new content
-abbrev pub with_gpr : Regs → ℕ → ℕ → Regs
-with_gpr regs n value = record regs { gpr = slice_set regs.gpr n value }
-
--- RA ← EA with update
-abbrev pub with_update : MemOp → Regs → Regs
-with_update op regs = option_map_or (λ n. with_gpr regs n op.ea) op.update regs
-
--- the block is reserved
-abbrev pub with_reservation : Bool → MemOp → Regs → Regs
-with_reservation reserve op regs = if reserve then record regs { reserve = Some (block_of op) } else regs
-
 -- a number of so many bytes, extended to 64 bits with its sign or with zeros
 abbrev pub extended : Bool → ℕ → ℕ → ℕ
 extended signed len number = if signed then sext_of number (8 * len) else number
@@ -133,17 +124,30 @@ is_reserved op None = false
 is_reserved op (Some block) = block == block_of op
 
 -- CR field 0 of a store-conditional: 0, 0, whether it stored, and SO
-abbrev pub with_success : Bool → Regs → Regs
-with_success success regs = record regs { cr = regs.cr % 2 ^ 28 + ((if success then 2 else 0) + regs.xer / 2 ^ 31 % 2) * 2 ^ 28; reserve = None }
+abbrev pub success_field : Bool → ℕ → ℕ
+success_field success xer = (if success then 2 else 0) + xer / 2 ^ 31 % 2
+
+-- RA ← EA with update
+abbrev pub update_targets : MemOp → Option ℕ → List Target
+update_targets op None = []
+update_targets op (Some n) = known (Gpr n) op.ea ∷ []
+
+-- the registers that an access writes, with their values, in order
+abbrev pub access_targets : MemWhat → MemOp → State → List Target
+access_targets (Load signed reversed reserve) op state = known (Gpr op.to) (load_number signed reversed op state.ram state.devices) ∷ update_targets op op.update
+access_targets (Store reversed) op state = update_targets op op.update
+access_targets (Conditional reversed) op state = known (CrField 0) (success_field (is_reserved op state.regs.reserve) state.regs.xer) ∷ []
+access_targets what op state = []
+
+-- the reservation behind an access: a load-and-reserve reserves its block, a store-conditional ends every reservation
+abbrev pub reserve_behind : MemWhat → MemOp → Option ℕ → Option ℕ
+reserve_behind (Load signed reversed reserve) op before = if reserve then Some (block_of op) else before
+reserve_behind (Conditional reversed) op before = None
+reserve_behind what op before = before
 
 -- what an access makes of the registers
 abbrev pub regs_behind : MemWhat → MemOp → State → Regs
-regs_behind (Load signed reversed reserve) op state = with_reservation reserve op (with_update op (with_gpr state.regs op.to (load_number signed reversed op state.ram state.devices)))
-regs_behind (Store reversed) op state = with_update op state.regs
-regs_behind (Conditional reversed) op state = with_success (is_reserved op state.regs.reserve) state.regs
-regs_behind Zero op state = state.regs
-regs_behind Clean op state = state.regs
-regs_behind Icbi op state = state.regs
+regs_behind what op state = record (set_targets (access_targets what op state) state.regs) { reserve = reserve_behind what op state.regs.reserve }
 
 -- and of RAM
 abbrev pub ram_behind : MemWhat → MemOp → State → List ℕ

@@ -1,13 +1,15 @@
--- In reading order: the state and its start; one instruction; runs of events; their text and what it spells.
+-- In reading order: the state and its start; one instruction, what it does by its row, what it reads, comes to and writes; runs of events; their text and what it spells.
 pub mod Vectors
 pub mod State
 pub mod Start
 pub mod Fetch
 pub mod Operations
+pub mod Slots
+pub mod Places
+pub mod Reads
 pub mod Execute
 pub mod Targets
 pub mod Access
-pub mod Shaped
 pub mod Step
 pub mod Replay
 pub mod Unbuilt

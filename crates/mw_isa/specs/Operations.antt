@@ -1,15 +1,25 @@
--- What each row of the instruction table does, by the unit that does it.
-use Rattle.std.specs.Prelude.{ℕ, true, false, List, [], ◌∷◌, Option, Some, None}
+-- What each row of the instruction table does, keyed by the row's name.
+use Rattle.std.specs.Prelude.{ℕ, true, false, List, [], ◌∷◌, map, codes}
+use Rattle.mw_alu.specs.declared.op.AluOp.{AluOp}
+use Rattle.mw_alu.specs.declared.op.AluOp.TheVariants.{Addi, Addis, Ori, Add, Paddi}
 use Rattle.mw_isa.specs.declared.memory.MemWhat.{MemWhat}
 use Rattle.mw_isa.specs.declared.memory.MemWhat.TheVariants.{Load, Store, Conditional, Zero, Clean, Icbi}
 use Rattle.mw_isa.specs.declared.operation.Operation.{Operation}
-use Rattle.mw_isa.specs.declared.operation.Operation.TheVariants.{Adder, Logic, Branch, Storage, Hint, Later}
-use Rattle.mw_isa.specs.declared.operation.AdderRow.TheVariants.{Addi, Addis, Add, Paddi}
-use Rattle.mw_isa.specs.declared.operation.LogicRow.TheVariants.{Ori}
+use Rattle.mw_isa.specs.declared.operation.Operation.TheVariants.{Alu, Branch, Storage, Hint, Later}
+use Rattle.mw_isa.specs.declared.operation.Inputs.{Inputs}
+use Rattle.mw_isa.specs.declared.operation.Inputs.TheVariants.{BaseNumber, SourceNumber, Two, Relative}
+use Rattle.mw_isa.specs.declared.operation.Carry.{Carry}
+use Rattle.mw_isa.specs.declared.operation.Carry.TheVariants.{Zero as NoCarry}
+use Rattle.mw_isa.specs.declared.operation.Ending.{Ending}
+use Rattle.mw_isa.specs.declared.operation.Ending.TheVariants.{Plain}
 use Rattle.mw_isa.specs.declared.operation.BranchRow.TheVariants.{B}
 use Rattle.mw_isa.specs.declared.operation.Address.{Address}
 use Rattle.mw_isa.specs.declared.operation.Address.TheVariants.{Displaced, Indexed, Block, Prefixed}
 use Rattle.mw_isa.specs.declared.operation.StorageRow.{StorageRow}
+
+-- a row: what the unit does, from which operands, with which carry, and what is written beside the result
+abbrev pub alu : AluOp → Inputs → Carry → Ending → Operation
+alu op inputs carry ending = Alu (record { op = op; inputs = inputs; carry = carry; ending = ending })
 
 -- an access of so many bytes at RA|0 and a displacement
 abbrev pub displaced : MemWhat → ℕ → StorageRow
@@ -59,269 +69,243 @@ prefixed row = record row { address = Prefixed }
 abbrev pub block : MemWhat → ℕ → StorageRow
 block what len = record { what = what; len = len; address = Block; update = false }
 
--- what each row does, in the order of the instruction table
-unfoldable pub operations : List Operation
-operations =
-    Adder Addi  -- addi
-    ∷ Adder Addis  -- addis
-    ∷ Later  -- addic
-    ∷ Later  -- addic.
-    ∷ Later  -- subfic
-    ∷ Later  -- mulli
-    ∷ Later  -- cmpi
-    ∷ Later  -- cmpli
-    ∷ Later  -- tdi
-    ∷ Later  -- twi
-    ∷ Logic Ori  -- ori
-    ∷ Later  -- oris
-    ∷ Later  -- xori
-    ∷ Later  -- xoris
-    ∷ Later  -- andi.
-    ∷ Later  -- andis.
-    ∷ Later  -- addpcis
-    ∷ Branch B  -- b
-    ∷ Later  -- bc
-    ∷ Later  -- bclr
-    ∷ Later  -- bcctr
-    ∷ Later  -- bctar
-    ∷ Later  -- crnor
-    ∷ Later  -- crandc
-    ∷ Later  -- crxor
-    ∷ Later  -- crnand
-    ∷ Later  -- crand
-    ∷ Later  -- creqv
-    ∷ Later  -- crorc
-    ∷ Later  -- cror
-    ∷ Later  -- mcrf
-    ∷ Later  -- rlwinm
-    ∷ Later  -- rlwnm
-    ∷ Later  -- rlwimi
-    ∷ Later  -- rldicl
-    ∷ Later  -- rldicr
-    ∷ Later  -- rldic
-    ∷ Later  -- rldimi
-    ∷ Later  -- rldcl
-    ∷ Later  -- rldcr
-    ∷ Later  -- maddhd
-    ∷ Later  -- maddhdu
-    ∷ Later  -- maddld
-    ∷ Adder Add  -- add
-    ∷ Later  -- subf
-    ∷ Later  -- neg
-    ∷ Later  -- addc
-    ∷ Later  -- subfc
-    ∷ Later  -- adde
-    ∷ Later  -- subfe
-    ∷ Later  -- addme
-    ∷ Later  -- subfme
-    ∷ Later  -- addze
-    ∷ Later  -- subfze
-    ∷ Later  -- mullw
-    ∷ Later  -- mulld
-    ∷ Later  -- mulhd
-    ∷ Later  -- mulhdu
-    ∷ Later  -- mulhw
-    ∷ Later  -- mulhwu
-    ∷ Later  -- divd
-    ∷ Later  -- divdu
-    ∷ Later  -- divw
-    ∷ Later  -- divwu
-    ∷ Later  -- divde
-    ∷ Later  -- divdeu
-    ∷ Later  -- divwe
-    ∷ Later  -- divweu
-    ∷ Later  -- modsd
-    ∷ Later  -- modud
-    ∷ Later  -- modsw
-    ∷ Later  -- moduw
-    ∷ Later  -- addex
-    ∷ Later  -- and
-    ∷ Later  -- andc
-    ∷ Later  -- or
-    ∷ Later  -- orc
-    ∷ Later  -- xor
-    ∷ Later  -- eqv
-    ∷ Later  -- nand
-    ∷ Later  -- nor
-    ∷ Later  -- slw
-    ∷ Later  -- srw
-    ∷ Later  -- sld
-    ∷ Later  -- srd
-    ∷ Later  -- sraw
-    ∷ Later  -- srawi
-    ∷ Later  -- srad
-    ∷ Later  -- sradi
-    ∷ Later  -- extswsli
-    ∷ Later  -- extsb
-    ∷ Later  -- extsh
-    ∷ Later  -- extsw
-    ∷ Later  -- cntlzw
-    ∷ Later  -- cntlzd
-    ∷ Later  -- cnttzw
-    ∷ Later  -- cnttzd
-    ∷ Later  -- cntlzdm
-    ∷ Later  -- cnttzdm
-    ∷ Later  -- popcntb
-    ∷ Later  -- popcntw
-    ∷ Later  -- popcntd
-    ∷ Later  -- prtyw
-    ∷ Later  -- prtyd
-    ∷ Later  -- brh
-    ∷ Later  -- brw
-    ∷ Later  -- brd
-    ∷ Later  -- pdepd
-    ∷ Later  -- pextd
-    ∷ Later  -- cfuged
-    ∷ Later  -- bpermd
-    ∷ Later  -- cmpb
-    ∷ Later  -- cmp
-    ∷ Later  -- cmpl
-    ∷ Later  -- tw
-    ∷ Later  -- td
-    ∷ Later  -- isel
-    ∷ Later  -- mfcr
-    ∷ Later  -- mfocrf
-    ∷ Later  -- mtcrf
-    ∷ Later  -- mtocrf
-    ∷ Later  -- setb
-    ∷ Later  -- setbc
-    ∷ Later  -- setbcr
-    ∷ Later  -- setnbc
-    ∷ Later  -- setnbcr
-    ∷ Later  -- cmprb
-    ∷ Later  -- cmpeqb
-    ∷ Later  -- mcrxrx
-    ∷ Storage (load 4)  -- lwz
-    ∷ Storage (updating (load 4))  -- lwzu
-    ∷ Storage (load 1)  -- lbz
-    ∷ Storage (updating (load 1))  -- lbzu
-    ∷ Storage (store 4)  -- stw
-    ∷ Storage (updating (store 4))  -- stwu
-    ∷ Storage (store 1)  -- stb
-    ∷ Storage (updating (store 1))  -- stbu
-    ∷ Storage (load 2)  -- lhz
-    ∷ Storage (updating (load 2))  -- lhzu
-    ∷ Storage (algebraic 2)  -- lha
-    ∷ Storage (updating (algebraic 2))  -- lhau
-    ∷ Storage (store 2)  -- sth
-    ∷ Storage (updating (store 2))  -- sthu
-    ∷ Storage (load 8)  -- ld
-    ∷ Storage (updating (load 8))  -- ldu
-    ∷ Storage (algebraic 4)  -- lwa
-    ∷ Storage (store 8)  -- std
-    ∷ Storage (updating (store 8))  -- stdu
-    ∷ Storage (indexed (load 8))  -- ldx
-    ∷ Storage (indexed (load 4))  -- lwzx
-    ∷ Storage (updating (indexed (load 8)))  -- ldux
-    ∷ Storage (updating (indexed (load 4)))  -- lwzux
-    ∷ Storage (indexed (load 1))  -- lbzx
-    ∷ Storage (updating (indexed (load 1)))  -- lbzux
-    ∷ Storage (indexed (load 2))  -- lhzx
-    ∷ Storage (updating (indexed (load 2)))  -- lhzux
-    ∷ Storage (indexed (algebraic 4))  -- lwax
-    ∷ Storage (indexed (algebraic 2))  -- lhax
-    ∷ Storage (updating (indexed (algebraic 4)))  -- lwaux
-    ∷ Storage (updating (indexed (algebraic 2)))  -- lhaux
-    ∷ Storage (indexed (reversed_load 8))  -- ldbrx
-    ∷ Storage (indexed (reversed_load 4))  -- lwbrx
-    ∷ Storage (indexed (reversed_load 2))  -- lhbrx
-    ∷ Storage (indexed (store 8))  -- stdx
-    ∷ Storage (indexed (store 4))  -- stwx
-    ∷ Storage (updating (indexed (store 8)))  -- stdux
-    ∷ Storage (updating (indexed (store 4)))  -- stwux
-    ∷ Storage (indexed (store 1))  -- stbx
-    ∷ Storage (updating (indexed (store 1)))  -- stbux
-    ∷ Storage (indexed (store 2))  -- sthx
-    ∷ Storage (updating (indexed (store 2)))  -- sthux
-    ∷ Storage (indexed (reversed_store 8))  -- stdbrx
-    ∷ Storage (indexed (reversed_store 4))  -- stwbrx
-    ∷ Storage (indexed (reversed_store 2))  -- sthbrx
-    ∷ Storage (indexed (reserving 4))  -- lwarx
-    ∷ Storage (indexed (reserving 1))  -- lbarx
-    ∷ Storage (indexed (reserving 8))  -- ldarx
-    ∷ Storage (indexed (reserving 2))  -- lharx
-    ∷ Storage (indexed (conditional 4))  -- stwcx.
-    ∷ Storage (indexed (conditional 8))  -- stdcx.
-    ∷ Storage (indexed (conditional 1))  -- stbcx.
-    ∷ Storage (indexed (conditional 2))  -- sthcx.
-    ∷ Storage (indexed (load 4))  -- lwzcix
-    ∷ Storage (indexed (load 2))  -- lhzcix
-    ∷ Storage (indexed (load 1))  -- lbzcix
-    ∷ Storage (indexed (load 8))  -- ldcix
-    ∷ Storage (indexed (store 4))  -- stwcix
-    ∷ Storage (indexed (store 2))  -- sthcix
-    ∷ Storage (indexed (store 1))  -- stbcix
-    ∷ Storage (indexed (store 8))  -- stdcix
-    ∷ Storage (block Clean 1)  -- dcbst
-    ∷ Storage (block Clean 1)  -- dcbf
-    ∷ Hint  -- dcbtst
-    ∷ Hint  -- dcbt
-    ∷ Storage (block Icbi 1)  -- icbi
-    ∷ Storage (block Zero 64)  -- dcbz
-    ∷ Later  -- sc
-    ∷ Later  -- rfid
-    ∷ Later  -- hrfid
-    ∷ Later  -- isync
-    ∷ Later  -- sync
-    ∷ Later  -- eieio
-    ∷ Later  -- tlbsync
-    ∷ Later  -- mfmsr
-    ∷ Later  -- mtmsr
-    ∷ Later  -- mtmsrd
-    ∷ Later  -- tlbie
-    ∷ Later  -- tlbiel
-    ∷ Later  -- mfspr
-    ∷ Later  -- mtspr
-    ∷ Later  -- mftb
-    ∷ Later  -- darn
-    ∷ Adder Paddi  -- paddi
-    ∷ Storage (prefixed (load 4))  -- plwz
-    ∷ Storage (prefixed (load 1))  -- plbz
-    ∷ Storage (prefixed (store 4))  -- pstw
-    ∷ Storage (prefixed (store 1))  -- pstb
-    ∷ Storage (prefixed (load 2))  -- plhz
-    ∷ Storage (prefixed (algebraic 2))  -- plha
-    ∷ Storage (prefixed (store 2))  -- psth
-    ∷ Storage (prefixed (algebraic 4))  -- plwa
-    ∷ Storage (prefixed (load 8))  -- pld
-    ∷ Storage (prefixed (store 8))  -- pstd
-    ∷ Hint  -- pnop
+-- a line of the list: a row by its name, and what it does
+pub record OperationLine : Type 0 where
+  pub name : List ℕ
+  pub operation : Operation
+
+abbrev pub on : List ℕ → Operation → OperationLine
+on name operation = record { name = name; operation = operation }
+
+-- the rows in the order of the instruction table
+unfoldable pub operation_lines : List OperationLine
+operation_lines =
+    on (codes "addi") (alu Addi BaseNumber NoCarry Plain)
+    ∷ on (codes "addis") (alu Addis BaseNumber NoCarry Plain)
+    ∷ on (codes "addic") Later
+    ∷ on (codes "addic.") Later
+    ∷ on (codes "subfic") Later
+    ∷ on (codes "mulli") Later
+    ∷ on (codes "cmpi") Later
+    ∷ on (codes "cmpli") Later
+    ∷ on (codes "tdi") Later
+    ∷ on (codes "twi") Later
+    ∷ on (codes "ori") (alu Ori SourceNumber NoCarry Plain)
+    ∷ on (codes "oris") Later
+    ∷ on (codes "xori") Later
+    ∷ on (codes "xoris") Later
+    ∷ on (codes "andi.") Later
+    ∷ on (codes "andis.") Later
+    ∷ on (codes "addpcis") Later
+    ∷ on (codes "b") (Branch B)
+    ∷ on (codes "bc") Later
+    ∷ on (codes "bclr") Later
+    ∷ on (codes "bcctr") Later
+    ∷ on (codes "bctar") Later
+    ∷ on (codes "crnor") Later
+    ∷ on (codes "crandc") Later
+    ∷ on (codes "crxor") Later
+    ∷ on (codes "crnand") Later
+    ∷ on (codes "crand") Later
+    ∷ on (codes "creqv") Later
+    ∷ on (codes "crorc") Later
+    ∷ on (codes "cror") Later
+    ∷ on (codes "mcrf") Later
+    ∷ on (codes "rlwinm") Later
+    ∷ on (codes "rlwnm") Later
+    ∷ on (codes "rlwimi") Later
+    ∷ on (codes "rldicl") Later
+    ∷ on (codes "rldicr") Later
+    ∷ on (codes "rldic") Later
+    ∷ on (codes "rldimi") Later
+    ∷ on (codes "rldcl") Later
+    ∷ on (codes "rldcr") Later
+    ∷ on (codes "maddhd") Later
+    ∷ on (codes "maddhdu") Later
+    ∷ on (codes "maddld") Later
+    ∷ on (codes "add") (alu Add Two NoCarry Plain)
+    ∷ on (codes "subf") Later
+    ∷ on (codes "neg") Later
+    ∷ on (codes "addc") Later
+    ∷ on (codes "subfc") Later
+    ∷ on (codes "adde") Later
+    ∷ on (codes "subfe") Later
+    ∷ on (codes "addme") Later
+    ∷ on (codes "subfme") Later
+    ∷ on (codes "addze") Later
+    ∷ on (codes "subfze") Later
+    ∷ on (codes "mullw") Later
+    ∷ on (codes "mulld") Later
+    ∷ on (codes "mulhd") Later
+    ∷ on (codes "mulhdu") Later
+    ∷ on (codes "mulhw") Later
+    ∷ on (codes "mulhwu") Later
+    ∷ on (codes "divd") Later
+    ∷ on (codes "divdu") Later
+    ∷ on (codes "divw") Later
+    ∷ on (codes "divwu") Later
+    ∷ on (codes "divde") Later
+    ∷ on (codes "divdeu") Later
+    ∷ on (codes "divwe") Later
+    ∷ on (codes "divweu") Later
+    ∷ on (codes "modsd") Later
+    ∷ on (codes "modud") Later
+    ∷ on (codes "modsw") Later
+    ∷ on (codes "moduw") Later
+    ∷ on (codes "addex") Later
+    ∷ on (codes "and") Later
+    ∷ on (codes "andc") Later
+    ∷ on (codes "or") Later
+    ∷ on (codes "orc") Later
+    ∷ on (codes "xor") Later
+    ∷ on (codes "eqv") Later
+    ∷ on (codes "nand") Later
+    ∷ on (codes "nor") Later
+    ∷ on (codes "slw") Later
+    ∷ on (codes "srw") Later
+    ∷ on (codes "sld") Later
+    ∷ on (codes "srd") Later
+    ∷ on (codes "sraw") Later
+    ∷ on (codes "srawi") Later
+    ∷ on (codes "srad") Later
+    ∷ on (codes "sradi") Later
+    ∷ on (codes "extswsli") Later
+    ∷ on (codes "extsb") Later
+    ∷ on (codes "extsh") Later
+    ∷ on (codes "extsw") Later
+    ∷ on (codes "cntlzw") Later
+    ∷ on (codes "cntlzd") Later
+    ∷ on (codes "cnttzw") Later
+    ∷ on (codes "cnttzd") Later
+    ∷ on (codes "cntlzdm") Later
+    ∷ on (codes "cnttzdm") Later
+    ∷ on (codes "popcntb") Later
+    ∷ on (codes "popcntw") Later
+    ∷ on (codes "popcntd") Later
+    ∷ on (codes "prtyw") Later
+    ∷ on (codes "prtyd") Later
+    ∷ on (codes "brh") Later
+    ∷ on (codes "brw") Later
+    ∷ on (codes "brd") Later
+    ∷ on (codes "pdepd") Later
+    ∷ on (codes "pextd") Later
+    ∷ on (codes "cfuged") Later
+    ∷ on (codes "bpermd") Later
+    ∷ on (codes "cmpb") Later
+    ∷ on (codes "cmp") Later
+    ∷ on (codes "cmpl") Later
+    ∷ on (codes "tw") Later
+    ∷ on (codes "td") Later
+    ∷ on (codes "isel") Later
+    ∷ on (codes "mfcr") Later
+    ∷ on (codes "mfocrf") Later
+    ∷ on (codes "mtcrf") Later
+    ∷ on (codes "mtocrf") Later
+    ∷ on (codes "setb") Later
+    ∷ on (codes "setbc") Later
+    ∷ on (codes "setbcr") Later
+    ∷ on (codes "setnbc") Later
+    ∷ on (codes "setnbcr") Later
+    ∷ on (codes "cmprb") Later
+    ∷ on (codes "cmpeqb") Later
+    ∷ on (codes "mcrxrx") Later
+    ∷ on (codes "lwz") (Storage (load 4))
+    ∷ on (codes "lwzu") (Storage (updating (load 4)))
+    ∷ on (codes "lbz") (Storage (load 1))
+    ∷ on (codes "lbzu") (Storage (updating (load 1)))
+    ∷ on (codes "stw") (Storage (store 4))
+    ∷ on (codes "stwu") (Storage (updating (store 4)))
+    ∷ on (codes "stb") (Storage (store 1))
+    ∷ on (codes "stbu") (Storage (updating (store 1)))
+    ∷ on (codes "lhz") (Storage (load 2))
+    ∷ on (codes "lhzu") (Storage (updating (load 2)))
+    ∷ on (codes "lha") (Storage (algebraic 2))
+    ∷ on (codes "lhau") (Storage (updating (algebraic 2)))
+    ∷ on (codes "sth") (Storage (store 2))
+    ∷ on (codes "sthu") (Storage (updating (store 2)))
+    ∷ on (codes "ld") (Storage (load 8))
+    ∷ on (codes "ldu") (Storage (updating (load 8)))
+    ∷ on (codes "lwa") (Storage (algebraic 4))
+    ∷ on (codes "std") (Storage (store 8))
+    ∷ on (codes "stdu") (Storage (updating (store 8)))
+    ∷ on (codes "ldx") (Storage (indexed (load 8)))
+    ∷ on (codes "lwzx") (Storage (indexed (load 4)))
+    ∷ on (codes "ldux") (Storage (updating (indexed (load 8))))
+    ∷ on (codes "lwzux") (Storage (updating (indexed (load 4))))
+    ∷ on (codes "lbzx") (Storage (indexed (load 1)))
+    ∷ on (codes "lbzux") (Storage (updating (indexed (load 1))))
+    ∷ on (codes "lhzx") (Storage (indexed (load 2)))
+    ∷ on (codes "lhzux") (Storage (updating (indexed (load 2))))
+    ∷ on (codes "lwax") (Storage (indexed (algebraic 4)))
+    ∷ on (codes "lhax") (Storage (indexed (algebraic 2)))
+    ∷ on (codes "lwaux") (Storage (updating (indexed (algebraic 4))))
+    ∷ on (codes "lhaux") (Storage (updating (indexed (algebraic 2))))
+    ∷ on (codes "ldbrx") (Storage (indexed (reversed_load 8)))
+    ∷ on (codes "lwbrx") (Storage (indexed (reversed_load 4)))
+    ∷ on (codes "lhbrx") (Storage (indexed (reversed_load 2)))
+    ∷ on (codes "stdx") (Storage (indexed (store 8)))
+    ∷ on (codes "stwx") (Storage (indexed (store 4)))
+    ∷ on (codes "stdux") (Storage (updating (indexed (store 8))))
+    ∷ on (codes "stwux") (Storage (updating (indexed (store 4))))
+    ∷ on (codes "stbx") (Storage (indexed (store 1)))
+    ∷ on (codes "stbux") (Storage (updating (indexed (store 1))))
+    ∷ on (codes "sthx") (Storage (indexed (store 2)))
+    ∷ on (codes "sthux") (Storage (updating (indexed (store 2))))
+    ∷ on (codes "stdbrx") (Storage (indexed (reversed_store 8)))
+    ∷ on (codes "stwbrx") (Storage (indexed (reversed_store 4)))
+    ∷ on (codes "sthbrx") (Storage (indexed (reversed_store 2)))
+    ∷ on (codes "lwarx") (Storage (indexed (reserving 4)))
+    ∷ on (codes "lbarx") (Storage (indexed (reserving 1)))
+    ∷ on (codes "ldarx") (Storage (indexed (reserving 8)))
+    ∷ on (codes "lharx") (Storage (indexed (reserving 2)))
+    ∷ on (codes "stwcx.") (Storage (indexed (conditional 4)))
+    ∷ on (codes "stdcx.") (Storage (indexed (conditional 8)))
+    ∷ on (codes "stbcx.") (Storage (indexed (conditional 1)))
+    ∷ on (codes "sthcx.") (Storage (indexed (conditional 2)))
+    ∷ on (codes "lwzcix") (Storage (indexed (load 4)))
+    ∷ on (codes "lhzcix") (Storage (indexed (load 2)))
+    ∷ on (codes "lbzcix") (Storage (indexed (load 1)))
+    ∷ on (codes "ldcix") (Storage (indexed (load 8)))
+    ∷ on (codes "stwcix") (Storage (indexed (store 4)))
+    ∷ on (codes "sthcix") (Storage (indexed (store 2)))
+    ∷ on (codes "stbcix") (Storage (indexed (store 1)))
+    ∷ on (codes "stdcix") (Storage (indexed (store 8)))
+    ∷ on (codes "dcbst") (Storage (block Clean 1))
+    ∷ on (codes "dcbf") (Storage (block Clean 1))
+    ∷ on (codes "dcbtst") Hint
+    ∷ on (codes "dcbt") Hint
+    ∷ on (codes "icbi") (Storage (block Icbi 1))
+    ∷ on (codes "dcbz") (Storage (block Zero 64))
+    ∷ on (codes "sc") Later
+    ∷ on (codes "rfid") Later
+    ∷ on (codes "hrfid") Later
+    ∷ on (codes "isync") Later
+    ∷ on (codes "sync") Later
+    ∷ on (codes "eieio") Later
+    ∷ on (codes "tlbsync") Later
+    ∷ on (codes "mfmsr") Later
+    ∷ on (codes "mtmsr") Later
+    ∷ on (codes "mtmsrd") Later
+    ∷ on (codes "tlbie") Later
+    ∷ on (codes "tlbiel") Later
+    ∷ on (codes "mfspr") Later
+    ∷ on (codes "mtspr") Later
+    ∷ on (codes "mftb") Later
+    ∷ on (codes "darn") Later
+    ∷ on (codes "paddi") (alu Paddi Relative NoCarry Plain)
+    ∷ on (codes "plwz") (Storage (prefixed (load 4)))
+    ∷ on (codes "plbz") (Storage (prefixed (load 1)))
+    ∷ on (codes "pstw") (Storage (prefixed (store 4)))
+    ∷ on (codes "pstb") (Storage (prefixed (store 1)))
+    ∷ on (codes "plhz") (Storage (prefixed (load 2)))
+    ∷ on (codes "plha") (Storage (prefixed (algebraic 2)))
+    ∷ on (codes "psth") (Storage (prefixed (store 2)))
+    ∷ on (codes "plwa") (Storage (prefixed (algebraic 4)))
+    ∷ on (codes "pld") (Storage (prefixed (load 8)))
+    ∷ on (codes "pstd") (Storage (prefixed (store 8)))
+    ∷ on (codes "pnop") Hint
     ∷ []
 
--- how many operands an access has
-abbrev pub address_count : Address → ℕ
-address_count Displaced = 3
-address_count Indexed = 3
-address_count Block = 2
-address_count Prefixed = 4
-
--- the places of the registers among them
-abbrev pub address_registers : Address → List ℕ
-address_registers Displaced = 0 ∷ 2 ∷ []
-address_registers Indexed = 0 ∷ 1 ∷ 2 ∷ []
-address_registers Block = 0 ∷ 1 ∷ []
-address_registers Prefixed = 0 ∷ 2 ∷ []
-
--- how many operands an operation has; of one that does nothing with them nothing is asked
-abbrev pub operand_count : Operation → Option ℕ
-operand_count (Adder Addi) = Some 3
-operand_count (Adder Addis) = Some 3
-operand_count (Adder Add) = Some 3
-operand_count (Adder Paddi) = Some 4
-operand_count (Logic Ori) = Some 3
-operand_count (Branch B) = Some 1
-operand_count (Storage row) = Some (address_count row.address)
-operand_count Hint = None
-operand_count Later = None
-
--- the places of the registers among them
-abbrev pub register_places : Operation → List ℕ
-register_places (Adder Addi) = 0 ∷ 1 ∷ []
-register_places (Adder Addis) = 0 ∷ 1 ∷ []
-register_places (Adder Add) = 0 ∷ 1 ∷ 2 ∷ []
-register_places (Adder Paddi) = 0 ∷ 1 ∷ []
-register_places (Logic Ori) = 0 ∷ 1 ∷ []
-register_places (Branch B) = []
-register_places (Storage row) = address_registers row.address
-register_places Hint = []
-register_places Later = []
+-- what each row does, in that order
+unfoldable pub operations : List Operation
+operations = map (λ (line : OperationLine). line.operation) operation_lines

@@ -14,7 +14,9 @@ use Rattle.mw_isa.specs.declared.regs.Regs.{Regs}
 use Rattle.mw_isa.specs.declared.vector.Vector.{Vector}
 use Rattle.mw_isa.specs.State.{State}
 use Rattle.mw_isa.specs.Fetch.{Fetched, fetched}
-use Rattle.mw_isa.specs.Execute.{operands_of, exec_of, set_targets, behind_insn, is_built_row}
+use Rattle.mw_isa.specs.Slots.{set_targets}
+use Rattle.mw_isa.specs.Reads.{operands_of}
+use Rattle.mw_isa.specs.Execute.{exec_of, behind_insn, is_built_row}
 use Rattle.mw_isa.specs.Access.{accessed, is_built_access, touches_of, deed_by}
 
 -- an interrupt that an instruction raises: its vector, its cause in SRR1, and DAR and DSISR where they change

@@ -1,35 +1,55 @@
 -- The registers that an instruction writes, known before their values.
-use Rattle.std.specs.Prelude.{if◌then◌else◌, List, [], ◌∷◌, ◌++◌, slice_get}
+use Rattle.std.specs.Prelude.{ℕ, if◌then◌else◌, List, [], ◌∷◌, Option, Some, None, slice_get}
 use Rattle.std.specs.Option.{option_map_or}
 use Rattle.mw_decode.specs.declared.insn.Insn.{Insn}
+use Rattle.mw_isa.specs.declared.memory.MemOp.{MemOp}
 use Rattle.mw_isa.specs.declared.memory.MemWhat.{MemWhat}
-use Rattle.mw_isa.specs.declared.memory.MemWhat.TheVariants.{Load}
+use Rattle.mw_isa.specs.declared.memory.MemWhat.TheVariants.{Load, Store, Conditional, Zero, Clean, Icbi}
+use Rattle.mw_isa.specs.declared.operation.Ending.{Ending}
+use Rattle.mw_isa.specs.declared.operation.Ending.TheVariants.{Plain}
 use Rattle.mw_isa.specs.declared.operation.Operation.{Operation}
-use Rattle.mw_isa.specs.declared.operation.Operation.TheVariants.{Adder, Logic, Branch, Storage, Hint, Later}
+use Rattle.mw_isa.specs.declared.operation.Operation.TheVariants.{Alu, Branch, Storage, Hint, Later}
 use Rattle.mw_isa.specs.declared.operation.StorageRow.{StorageRow}
-use Rattle.mw_isa.specs.declared.outcome.Slot.{Slot}
-use Rattle.mw_isa.specs.declared.outcome.Slot.TheVariants.{Gpr}
+use Rattle.mw_isa.specs.declared.outcome.Outcome.{Outcome}
+use Rattle.mw_isa.specs.declared.outcome.Outcome.TheVariants.{Done, Memory}
+use Rattle.mw_isa.specs.declared.place.Places.{Places}
+use Rattle.mw_isa.specs.declared.slot.Slot.{Slot}
+use Rattle.mw_isa.specs.declared.slot.Slot.TheVariants.{Gpr, CrField}
+use Rattle.mw_isa.specs.Execute.{loaded_of, updated_of}
 use Rattle.mw_isa.specs.Operations.{operations}
-use Rattle.mw_isa.specs.Execute.{operand_of, base_place}
+use Rattle.mw_isa.specs.Places.{places_of}
+use Rattle.mw_isa.specs.Reads.{register_at, slots_in}
+use Rattle.mw_isa.specs.Slots.{slots_of}
 
--- RT of a load
-abbrev pub target_by : MemWhat → Insn → List Slot
-target_by (Load signed reversed reserve) insn = Gpr (operand_of insn 0) ∷ []
-target_by what insn = []
+-- RA, where it is updated
+abbrev pub update_slots : Option ℕ → List Slot
+update_slots None = []
+update_slots (Some n) = Gpr n ∷ []
 
--- RT of a load, and RA with update
-abbrev pub storage_targets : StorageRow → Insn → List Slot
-storage_targets row insn = target_by row.what insn ++ (if row.update then Gpr (operand_of insn (base_place row.address)) ∷ [] else [])
+-- what an access writes: RT of a load, then RA with update; of a store RA with update; of a store-conditional CR field 0
+abbrev pub access_slots : MemWhat → ℕ → Option ℕ → List Slot
+access_slots (Load signed reversed reserve) to update = Gpr to ∷ update_slots update
+access_slots (Store reversed) to update = update_slots update
+access_slots (Conditional reversed) to update = CrField 0 ∷ []
+access_slots what to update = []
 
--- the general purpose registers that an operation writes, in order
+-- what is written at the end of an arithmetic row
+abbrev pub ending_slots : Ending → Places → Insn → List Slot
+ending_slots Plain places insn = slots_in (register_at insn places.written)
+
+-- what an operation writes, in order
 abbrev pub targets_by : Operation → Insn → List Slot
-targets_by (Adder row) insn = Gpr (operand_of insn 0) ∷ []
-targets_by (Logic row) insn = Gpr (operand_of insn 0) ∷ []
+targets_by (Alu row) insn = ending_slots row.ending (places_of (Alu row)) insn
 targets_by (Branch row) insn = []
-targets_by (Storage row) insn = storage_targets row insn
+targets_by (Storage row) insn = access_slots row.what (loaded_of (places_of (Storage row)) insn) (updated_of row (places_of (Storage row)) insn)
 targets_by Hint insn = []
 targets_by Later insn = []
 
--- the general purpose registers that an instruction writes, in order
-abbrev pub targets_of : Insn → List Slot
+-- the registers that an instruction writes, in order
+unfoldable pub targets_of : Insn → List Slot
 targets_of insn = option_map_or (λ operation. targets_by operation insn) (slice_get operations insn.row) []
+
+-- the registers that an outcome writes, in order: those of its targets, or those of its access
+abbrev pub written_slots : Outcome → List Slot
+written_slots (Done targets next) = slots_of targets.items
+written_slots (Memory op) = access_slots op.what op.to op.update

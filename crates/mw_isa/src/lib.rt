@@ -8,7 +8,14 @@ mod events;
 mod memory;
 mod operation;
 mod outcome;
+mod place;
+mod placing;
+mod reading;
 mod regs;
+mod slot;
+mod slot_set;
+mod slots;
+mod sources;
 mod state;
 mod vector;
 
@@ -16,17 +23,36 @@ pub use access::{Deed, Kind, Span, Touch};
 pub use event::{End, Event};
 pub use events::Events;
 pub use memory::{MemOp, MemWhat};
-pub use operation::{AdderRow, Address, BranchRow, LogicRow, Operation, StorageRow, operation_at};
-pub use outcome::{Operands, Outcome, Slot, Target};
+pub use operation::{
+    Address, AluRow, BranchRow, Carry, Ending, Inputs, Operation, StorageRow, operation_at,
+};
+pub use outcome::{Operands, Outcome, Target};
+pub use place::Places;
+pub use placing::{operand, places, register};
+pub use reading::{SlotView, loaded, operands, reads, targets, updated};
 pub use regs::Regs;
+pub use slot::Slot;
+pub use slot_set::SlotSet;
+pub use slots::{get_slot, set_slot};
 pub use state::State;
 pub use vector::Vector;
 
 #[cfg(test)]
 mod tests {
     use super::*;
+    use mw_alu::AluOp;
     use mw_tables::row_at;
     use std::test::Fail;
+
+    /// An arithmetic row that takes no carry and writes nothing beside its result.
+    fn alu(op: AluOp, inputs: Inputs) -> Operation {
+        Operation::Alu(AluRow {
+            op,
+            inputs,
+            carry: Carry::Zero,
+            ending: Ending::Plain,
+        })
+    }
 
     #[test]
     fn the_start_is_the_boards(rt: HostRuntime) {
@@ -37,13 +63,13 @@ mod tests {
     #[test]
     fn operations_go_by_the_table(rt: HostRuntime) {
         for (row, name, operation) in [
-            (0, "addi", Operation::Adder(AdderRow::Addi)),
-            (1, "addis", Operation::Adder(AdderRow::Addis)),
-            (10, "ori", Operation::Logic(LogicRow::Ori)),
+            (0, "addi", alu(AluOp::Addi, Inputs::BaseNumber)),
+            (1, "addis", alu(AluOp::Addis, Inputs::BaseNumber)),
+            (10, "ori", alu(AluOp::Ori, Inputs::SourceNumber)),
             (17, "b", Operation::Branch(BranchRow::B)),
-            (43, "add", Operation::Adder(AdderRow::Add)),
+            (43, "add", alu(AluOp::Add, Inputs::Two)),
             (44, "subf", Operation::Later),
-            (212, "paddi", Operation::Adder(AdderRow::Paddi)),
+            (212, "paddi", alu(AluOp::Paddi, Inputs::Relative)),
             (223, "pnop", Operation::Hint),
         ] {
             assert!(rt; row < 224);

@@ -3,14 +3,13 @@ ghost use Rattle.mw_isa.specs.Operations.{operations};
 ghost use Rattle.mw_tables.specs.Rows.{row_count};
 
 use crate::memory::MemWhat;
+use mw_alu::AluOp;
 
 /// What a row of the instruction table does, by the unit that does it.
 #[derive(Clone, Copy, Debug, PartialEq, Eq)]
 pub enum Operation {
-    /// A sum.
-    Adder(AdderRow),
-    /// A bitwise result.
-    Logic(LogicRow),
+    /// A result that is there in one cycle.
+    Alu(AluRow),
     /// A branch.
     Branch(BranchRow),
     /// An access to storage.
@@ -21,24 +20,44 @@ pub enum Operation {
     Later,
 }
 
-/// The rows that add (Book I, fixed-point arithmetic instructions).
+/// A row whose result is there in one cycle (Book I, fixed-point arithmetic and logical instructions).
 #[derive(Clone, Copy, Debug, PartialEq, Eq)]
-pub enum AdderRow {
-    /// addi: RA|0 and a signed number.
-    Addi,
-    /// addis: RA|0 and a signed number shifted left by 16.
-    Addis,
-    /// add: RA and RB.
-    Add,
-    /// paddi: RA|0, or the prefix's own address, and a signed number of 34 bits.
-    Paddi,
+pub struct AluRow {
+    /// What the unit does.
+    pub op: AluOp,
+    /// How its operands make the numbers that the unit takes.
+    pub inputs: Inputs,
+    /// The carry that the unit takes.
+    pub carry: Carry,
+    /// What is written beside the result.
+    pub ending: Ending,
 }
 
-/// The rows that work on single bits (Book I, fixed-point logical instructions).
+/// How the operands of an arithmetic row make the numbers that its unit takes, by operand list.
 #[derive(Clone, Copy, Debug, PartialEq, Eq)]
-pub enum LogicRow {
-    /// ori: RS or an unsigned number.
-    Ori,
+pub enum Inputs {
+    /// RT,RA,SI: a is RA|0, b the number.
+    BaseNumber,
+    /// RA,RS,UI: a is RS, b the number.
+    SourceNumber,
+    /// RT,RA,RB: a is RA, b is RB.
+    Two,
+    /// RT,RA,SI,R: a is RA|0, or the instruction's own address where R is 1; b the number.
+    Relative,
+}
+
+/// The carry that a unit takes.
+#[derive(Clone, Copy, Debug, PartialEq, Eq)]
+pub enum Carry {
+    /// None.
+    Zero,
+}
+
+/// What an arithmetic row writes beside its result.
+#[derive(Clone, Copy, Debug, PartialEq, Eq)]
+pub enum Ending {
+    /// Nothing.
+    Plain,
 }
 
 /// The rows that branch (Book I, branch instructions).
@@ -75,11 +94,18 @@ pub struct StorageRow {
     pub update: bool,
 }
 
+/// The line of an arithmetic row: what the unit does, from which operands, with which carry, and what is written beside.
+macro_rules! alu {
+    ($op:ident, $inputs:ident, $carry:ident, $ending:ident) => {
+        Operation::Alu(AluRow { op: AluOp::$op, inputs: Inputs::$inputs, carry: Carry::$carry, ending: Ending::$ending })
+    };
+}
+
 /// What each row does, in the order of the instruction table.
 #[rattlefmt::skip]
 static OPERATIONS: [Operation; 224] = [
-    Operation::Adder(AdderRow::Addi), // addi
-    Operation::Adder(AdderRow::Addis), // addis
+    alu!(Addi, BaseNumber, Zero, Plain), // addi
+    alu!(Addis, BaseNumber, Zero, Plain), // addis
     Operation::Later, // addic
     Operation::Later, // addic.
     Operation::Later, // subfic
@@ -88,7 +114,7 @@ static OPERATIONS: [Operation; 224] = [
     Operation::Later, // cmpli
     Operation::Later, // tdi
     Operation::Later, // twi
-    Operation::Logic(LogicRow::Ori), // ori
+    alu!(Ori, SourceNumber, Zero, Plain), // ori
     Operation::Later, // oris
     Operation::Later, // xori
     Operation::Later, // xoris
@@ -121,7 +147,7 @@ static OPERATIONS: [Operation; 224] = [
     Operation::Later, // maddhd
     Operation::Later, // maddhdu
     Operation::Later, // maddld
-    Operation::Adder(AdderRow::Add), // add
+    alu!(Add, Two, Zero, Plain), // add
     Operation::Later, // subf
     Operation::Later, // neg
     Operation::Later, // addc
@@ -290,7 +316,7 @@ static OPERATIONS: [Operation; 224] = [
     Operation::Later, // mtspr
     Operation::Later, // mftb
     Operation::Later, // darn
-    Operation::Adder(AdderRow::Paddi), // paddi
+    alu!(Paddi, Relative, Zero, Plain), // paddi
     Operation::Storage(StorageRow { what: MemWhat::Load { signed: false, reversed: false, reserve: false }, len: 4, address: Address::Prefixed, update: false }), // plwz
     Operation::Storage(StorageRow { what: MemWhat::Load { signed: false, reversed: false, reserve: false }, len: 1, address: Address::Prefixed, update: false }), // plbz
     Operation::Storage(StorageRow { what: MemWhat::Store { reversed: false }, len: 4, address: Address::Prefixed, update: false }), // pstw
@@ -307,7 +333,7 @@ static OPERATIONS: [Operation; 224] = [
 /// What the row at a place of the instruction table does (Book I, fixed-point and branch instructions;
 /// Book II, atomic update and cache management). Places are counted from 0, in the table's order; an
 /// access's length is in bytes. It can't fail.
-#[tactic(auto, unfolding(crate::specs::Operations::operations))]
+#[tactic(auto, unfolding(crate::specs::Operations::operations, crate::specs::Operations::operation_lines))]
 pub fn operation_at(row: u16) -> Operation
     requires { row < row_count }
     ensures { slice_get operations row ≡ Some result }

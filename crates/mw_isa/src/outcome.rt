@@ -1,23 +1,6 @@
 use crate::memory::MemOp;
+use crate::slot::Slot;
 use arrayvec::ArrayVec;
-
-/// A register that an instruction writes.
-#[derive(Clone, Copy, Debug, PartialEq, Eq)]
-pub enum Slot {
-    /// A general purpose register, by its number, 0 to 31.
-    Gpr(u8),
-}
-
-impl Default for Slot {
-    ghost use Rattle.std.specs.Prelude.{◌≡◌};
-    ghost use Rattle.mw_isa.specs.declared.outcome.Slot.TheVariants.{Gpr};
-
-    ghost is_default = { λ slot. slot ≡ Gpr 0 };
-
-    fn default() -> Slot {
-        Slot::Gpr(0)
-    }
-}
 
 /// A register that an instruction writes, with its value once that is known.
 #[derive(Clone, Copy, Debug, Default, PartialEq, Eq)]
@@ -28,7 +11,7 @@ pub struct Target {
     pub value: Option<u64>,
 }
 
-/// What an instruction reads of the registers; `a`, `b` and `c` are 0 where none is read.
+/// What an instruction reads of the registers; every part but MSR is 0 where it isn't read.
 #[derive(Clone, Copy, Debug, PartialEq, Eq)]
 pub struct Operands {
     /// The first register among the operands that is read.
