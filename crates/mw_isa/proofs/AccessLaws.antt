@@ -4,15 +4,14 @@ use Rattle.std.proofs.lemmas.Bool.Decides.{nat_tests}
 use Rattle.mw_isa.specs.declared.memory.MemWhat.{MemWhat}
 use Rattle.mw_isa.specs.declared.memory.MemWhat.TheVariants.{Load, Store, Conditional, Zero, Clean, Icbi}
 use Rattle.mw_isa.specs.declared.operation.Operation.{Operation}
-use Rattle.mw_isa.specs.declared.operation.Operation.TheVariants.{Adder, Logic, Branch, Storage, Hint, Later}
+use Rattle.mw_isa.specs.declared.operation.Operation.TheVariants.{Alu, Branch, Storage, Hint, Later}
 use Rattle.mw_isa.specs.declared.operation.StorageRow.{StorageRow}
-use Rattle.mw_isa.specs.Operations.{operations}
+use Rattle.mw_isa.specs.Operations.{operations, operation_lines}
 use Rattle.mw_isa.specs.Access.{is_sized_by}
 
 -- the length of an operation's access, if it has one, is one of its lengths
 abbrev sized_operation : Operation → Bool
-sized_operation (Adder row) = true
-sized_operation (Logic row) = true
+sized_operation (Alu row) = true
 sized_operation (Branch row) = true
 sized_operation (Storage row) = is_sized_by row.what row.len
 sized_operation Hint = true
@@ -24,7 +23,7 @@ all_sized [] = true
 all_sized (operation ∷ others) = sized_operation operation && all_sized others
 
 operations-sized : all_sized operations ≡ true
-unfolding operations
+unfolding operations operation_lines
 operations-sized = refl
 
 -- the first of two tests that hold

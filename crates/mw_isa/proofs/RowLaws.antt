@@ -1,36 +1,47 @@
 -- What holds of each row of the instruction table.
-use Rattle.std.proofs.Common.{◌≡◌, ℕ, zero, suc, ◌*◌, ◌^◌, ◌<◌, ◌==◌, Bool, true, false, not, ◌&&◌, ℤ, pos, List, [], ◌∷◌, Option, Some, None, IsSomeAnd, slice_get, length, refl, sym, ap, ◌∙◌, subst, arith}
-use Rattle.std.specs.Option.{option_map_or}
+use Rattle.std.proofs.Common.{◌≡◌, ℕ, zero, suc, ◌*◌, ◌^◌, ◌<◌, ◌==◌, Bool, true, false, not, ◌&&◌, cond, ℤ, pos, List, [], ◌∷◌, map, Option, Some, None, IfSome, IsSomeAnd, option_map, slice_get, refl, sym, ap, ◌∙◌, subst, arith}
 use Rattle.std.specs.Int.{w64, cast_unsigned}
 use Rattle.std.proofs.lemmas.Bool.{and_parts, eqb-true, not-true}
 use Rattle.mw_tables.specs.declared.layout.Field.{Field}
 use Rattle.mw_tables.specs.declared.layout.Layout.{Layout}
-use Rattle.mw_tables.specs.Rows.{lines, layouts}
+use Rattle.mw_tables.specs.Row.{TableRow}
+use Rattle.mw_tables.specs.Rows.{lines, table, layouts}
 use Rattle.mw_tables.specs.Layouts.{fields_of, width_of, operand_at, InRange, HasOperands}
-use Rattle.mw_tables.proofs.FieldLaws.{HasOperands-length}
 use Rattle.mw_decode.specs.declared.insn.Insn.{Insn}
 use Rattle.mw_decode.specs.Decode.{IsInsn}
 use Rattle.mw_isa.specs.declared.operation.Operation.{Operation}
-use Rattle.mw_isa.specs.Operations.{operations, operand_count, register_places}
-use Rattle.mw_isa.specs.Shaped.{AreRegisters, AreCounted, IsReady}
+use Rattle.mw_isa.specs.Operations.{OperationLine, operations, operation_lines}
+use Rattle.mw_isa.specs.Places.{Role, Written, First, Base, Second, Third, Number, Own, Unused, is_written, is_first, is_base, is_second, is_third, roles_by, limit_of, place_in, places_in, places_by, places_of, IsLimited, AreOperands, IsReadyBy, IsReady, IsRegister, HasRegisters}
 
--- a register's field: five bits, unsigned
-abbrev is_register_field : Field → Bool
-is_register_field f = (width_of f == 5) && ((f.shift == 0) && not f.signed)
+-- the list of operations names the rows of the table, in the table's order
+pub operations-named : map (λ (line : OperationLine). line.name) operation_lines ≡ map (λ (row : TableRow). row.name) table
+unfolding operation_lines table lines
+operations-named = refl
 
--- so are the fields at these places
-abbrev have_registers : List Field → List ℕ → Bool
-have_registers fs [] = true
-have_registers fs (p ∷ ps) = option_map_or is_register_field (slice_get fs p) false && have_registers fs ps
+-- a field of so many bits that holds an unsigned number as it is
+abbrev is_plain_field : ℕ → Field → Bool
+is_plain_field bits f = (width_of f == bits) && ((f.shift == 0) && not f.signed)
 
--- there are so many fields
-abbrev are_counted : Option ℕ → List Field → Bool
-are_counted None fs = true
-are_counted (Some count) fs = length fs == count
+-- a field is as is asked
+abbrev is_as_asked : Option ℕ → Field → Bool
+is_as_asked None f = true
+is_as_asked (Some bits) f = is_plain_field bits f
 
--- a layout has the operands that an operation needs
+-- there are as many fields as roles, and each is as its role asks
+abbrev are_as_asked : List Role → List Field → Bool
+are_as_asked [] [] = true
+are_as_asked [] (f ∷ fs) = false
+are_as_asked (role ∷ roles) [] = false
+are_as_asked (role ∷ roles) (f ∷ fs) = is_as_asked (limit_of role) f && are_as_asked roles fs
+
+-- a layout has the operands that roles ask for
+abbrev fits_by : Option (List Role) → Layout → Bool
+fits_by None layout = true
+fits_by (Some roles) layout = are_as_asked roles (fields_of layout)
+
+-- a layout has the operands that an operation asks for
 abbrev fits : Operation → Layout → Bool
-fits operation layout = are_counted (operand_count operation) (fields_of layout) && have_registers (fields_of layout) (register_places operation)
+fits operation layout = fits_by (roles_by operation) layout
 
 -- so it is for each operation and the layout of its row
 abbrev all_fit : List Operation → List Layout → Bool
@@ -39,8 +50,9 @@ all_fit [] (layout ∷ others) = false
 all_fit (operation ∷ others) [] = false
 all_fit (operation ∷ operations) (layout ∷ layouts) = fits operation layout && all_fit operations layouts
 
+-- each row's operands are as its operation asks
 operations-fit : all_fit operations layouts ≡ true
-unfolding operations layouts lines
+unfolding operations operation_lines layouts lines
 operations-fit = refl
 
 -- what holds of all holds at each place
@@ -54,45 +66,113 @@ fits-at (operation ∷ os) (layout ∷ ls) zero o l all at there =
     rw (sym a, sym b) (and_parts _ _ all).0
 fits-at (operation ∷ os) (layout ∷ ls) (suc place) o l all at there = fits-at os ls place o l (and_parts _ _ all).1 at there
 
--- an operand in a register's field is below 32
-below-in : (f : Field) (z : ℤ) → is_register_field f ≡ true → InRange f z → cast_unsigned w64 z < 32
-below-in f z is range =
+-- an operand in such a field has no more than so many bits
+below-in : (bits : ℕ) (f : Field) (z : ℤ) → is_plain_field bits f ≡ true → InRange f z → cast_unsigned w64 z < 2 ^ bits
+below-in bits f z is range =
     let parts = and_parts _ _ is in
     let rest = and_parts _ _ parts.1 in
-    let width : width_of f ≡ 5 = eqb-true _ _ parts.0 in
+    let width : width_of f ≡ bits = eqb-true _ _ parts.0 in
     let shift : f.shift ≡ 0 = eqb-true _ _ rest.0 in
     let plain : f.signed ≡ false = not-true _ rest.1 in
-    let small : range.0 < 32 = subst (λ (n : ℕ). range.0 < 2 ^ n) width range.1 in
+    let small : range.0 < 2 ^ bits = subst (λ (n : ℕ). range.0 < 2 ^ n) width range.1 in
     let value : z ≡ pos (range.0 * 2 ^ f.shift) = range.2 ∙ rw plain in
     let same : z ≡ pos range.0 = value ∙ rw shift (ap pos (omega arith)) in
-    subst (λ (v : ℤ). cast_unsigned w64 v < 32) (sym same) small
+    subst (λ (v : ℤ). cast_unsigned w64 v < 2 ^ bits) (sym same) small
 
--- the operand at the place of a register's field is one
-register-at : (fs : List Field) (zs : List ℤ) (place : ℕ) → HasOperands fs zs → option_map_or is_register_field (slice_get fs place) false ≡ true → cast_unsigned w64 (operand_at zs place) < 32
-register-at [] [] place h is = cc
-register-at [] (z ∷ zs) place h is = absurd h
-register-at (f ∷ fs) [] place h is = absurd h
-register-at (f ∷ fs) (z ∷ zs) zero h is = below-in f z is h.0
-register-at (f ∷ fs) (z ∷ zs) (suc place) h is = register-at fs zs place h.1 is
+-- an operand is as its field was asked to be
+limited-in : (limit : Option ℕ) (f : Field) (z : ℤ) → is_as_asked limit f ≡ true → InRange f z → IsLimited limit (cast_unsigned w64 z)
+limited-in None f z is range = tt
+limited-in (Some bits) f z is range = below-in bits f z is range
 
-registers-at : (insn : Insn) (fs : List Field) (places : List ℕ) → HasOperands fs insn.ops.items → have_registers fs places ≡ true → AreRegisters insn places
-registers-at insn fs [] h is = tt
-registers-at insn fs (p ∷ ps) h is =
+-- so are all operands
+operands-in : (roles : List Role) (fs : List Field) (zs : List ℤ) → HasOperands fs zs → are_as_asked roles fs ≡ true → AreOperands roles zs
+operands-in [] [] [] h is = tt
+operands-in [] [] (z ∷ zs) h is = absurd h
+operands-in [] (f ∷ fs) zs h is = cc
+operands-in (role ∷ roles) [] zs h is = cc
+operands-in (role ∷ roles) (f ∷ fs) [] h is = absurd h
+operands-in (role ∷ roles) (f ∷ fs) (z ∷ zs) h is =
     let parts = and_parts _ _ is in
-    (register-at fs insn.ops.items p h parts.0, registers-at insn fs ps h parts.1)
-
-counted-at : (insn : Insn) (fs : List Field) (count : Option ℕ) → HasOperands fs insn.ops.items → are_counted count fs ≡ true → AreCounted insn count
-counted-at insn fs None h is = tt
-counted-at insn fs (Some count) h is = HasOperands-length fs insn.ops.items h ∙ eqb-true _ _ is
+    (limited-in (limit_of role) f z parts.0 h.0, operands-in roles fs zs h.1 parts.1)
 
 -- some value is there
 some_of : {A : Type 0} (o : Option A) (P : A → Type 0) → IsSomeAnd o P → (x : A) × (o ≡ Some x) × P x
 some_of None P h = absurd h
 some_of (Some x) P h = (x, refl, h)
 
--- an instruction of the table has the operands that its operation needs
+ready-by : (insn : Insn) (roles : Option (List Role)) (layout : Layout) → fits_by roles layout ≡ true → HasOperands (fields_of layout) insn.ops.items → IsReadyBy roles insn
+ready-by insn None layout fit h = tt
+ready-by insn (Some roles) layout fit h = operands-in roles (fields_of layout) insn.ops.items h fit
+
+-- an instruction of the table has the operands that its operation asks for
 pub ready : (insn : Insn) (operation : Operation) → IsInsn insn → slice_get operations insn.row ≡ Some operation → IsReady operation insn
 ready insn operation is at =
     let there = some_of (slice_get layouts insn.row) (λ (layout : Layout). HasOperands (fields_of layout) insn.ops.items) is.operands in
-    let parts = and_parts _ _ (fits-at operations layouts insn.row operation there.0 operations-fit at there.1) in
-    (counted-at insn (fields_of there.0) (operand_count operation) there.2 parts.0, registers-at insn (fields_of there.0) (register_places operation) there.2 parts.1)
+    ready-by insn (roles_by operation) there.0 (fits-at operations layouts insn.row operation there.0 operations-fit at there.1) there.2
+
+-- the operand at the first place or at a later one
+limited-step : (here : Bool) (rest : Option ℕ) (place : ℕ) (z : ℤ) (zs : List ℤ) → cond here (Some 0) (option_map suc rest) ≡ Some place → (here ≡ true → cast_unsigned w64 z < 32) → ((later : ℕ) → rest ≡ Some later → cast_unsigned w64 (operand_at zs later) < 32) → cast_unsigned w64 (operand_at (z ∷ zs) place) < 32
+limited-step true rest place z zs e first others =
+    let is : 0 ≡ place = cc in
+    subst (λ (n : ℕ). cast_unsigned w64 (operand_at (z ∷ zs) n) < 32) is (first refl)
+limited-step false None place z zs e first others = cc
+limited-step false (Some later) place z zs e first others =
+    let is : suc later ≡ place = cc in
+    subst (λ (n : ℕ). cast_unsigned w64 (operand_at (z ∷ zs) n) < 32) is (others later refl)
+
+-- a number of five bits
+five-bits : (limit : Option ℕ) (n : ℕ) → limit ≡ Some 5 → IsLimited limit n → n < 32
+five-bits limit n e h = subst (λ (o : Option ℕ). IsLimited o n) e h
+
+-- the operand of a role of five bits is the number of a register
+register-in : (test : Role → Bool) → ((role : Role) → test role ≡ true → limit_of role ≡ Some 5) → (roles : List Role) (zs : List ℤ) (place : ℕ) → AreOperands roles zs → place_in test roles ≡ Some place → cast_unsigned w64 (operand_at zs place) < 32
+register-in test five [] zs place h e = cc
+register-in test five (role ∷ roles) [] place h e = absurd h
+register-in test five (role ∷ roles) (z ∷ zs) place h e =
+    limited-step (test role) (place_in test roles) place z zs e (λ is. five-bits (limit_of role) (cast_unsigned w64 z) (five role is) h.0) (λ later is. register-in test five roles zs later h.1 is)
+
+-- the roles of registers have five bits
+written-five : (role : Role) → is_written role ≡ true → limit_of role ≡ Some 5
+written-five Written e = refl
+written-five role e = cc
+
+first-five : (role : Role) → is_first role ≡ true → limit_of role ≡ Some 5
+first-five First e = refl
+first-five role e = cc
+
+base-five : (role : Role) → is_base role ≡ true → limit_of role ≡ Some 5
+base-five Base e = refl
+base-five role e = cc
+
+second-five : (role : Role) → is_second role ≡ true → limit_of role ≡ Some 5
+second-five Second e = refl
+second-five role e = cc
+
+third-five : (role : Role) → is_third role ≡ true → limit_of role ≡ Some 5
+third-five Third e = refl
+third-five role e = cc
+
+-- a fact on the place that is there
+if-there : (o : Option ℕ) (P : ℕ → Type 0) → ((n : ℕ) → o ≡ Some n → P n) → IfSome o P
+if-there None P h = tt
+if-there (Some n) P h = h n refl
+
+-- so there are registers at the places of those roles
+registers-in : (insn : Insn) (roles : List Role) → AreOperands roles insn.ops.items → HasRegisters insn (places_in roles)
+registers-in insn roles h =
+    let at : (test : Role → Bool) → ((role : Role) → test role ≡ true → limit_of role ≡ Some 5) → IfSome (place_in test roles) (IsRegister insn) = λ test five. if-there (place_in test roles) (IsRegister insn) (λ n e. register-in test five roles insn.ops.items n h e) in
+    record {
+      at_written = at is_written written-five;
+      at_first = at is_first first-five;
+      at_base = at is_base base-five;
+      at_second = at is_second second-five;
+      at_third = at is_third third-five;
+    }
+
+registers-by : (insn : Insn) (roles : Option (List Role)) → IsReadyBy roles insn → HasRegisters insn (places_by roles)
+registers-by insn None h = record { at_written = tt; at_first = tt; at_base = tt; at_second = tt; at_third = tt }
+registers-by insn (Some roles) h = registers-in insn roles h
+
+-- an instruction of the table has registers where its operation has them
+pub registers : (insn : Insn) (operation : Operation) → IsInsn insn → slice_get operations insn.row ≡ Some operation → HasRegisters insn (places_of operation)
+registers insn operation is at = registers-by insn (roles_by operation) (ready insn operation is at)

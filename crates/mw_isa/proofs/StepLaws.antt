@@ -11,7 +11,8 @@ use Rattle.mw_isa.specs.declared.outcome.Outcome.{Outcome}
 use Rattle.mw_isa.specs.declared.outcome.Outcome.TheVariants.{Done, Memory}
 use Rattle.mw_isa.specs.State.{State}
 use Rattle.mw_isa.specs.Fetch.{fetched}
-use Rattle.mw_isa.specs.Execute.{operands_of, exec_of}
+use Rattle.mw_isa.specs.Reads.{operands_of}
+use Rattle.mw_isa.specs.Execute.{exec_of}
 use Rattle.mw_soc.specs.DeviceData.{DeviceData}
 use Rattle.mw_soc.specs.Devices.{cycle_of}
 use Rattle.mw_soc.proofs.Laws.{cycle-device_load, cycle-device_store}

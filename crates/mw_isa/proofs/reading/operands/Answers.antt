@@ -1,0 +1,12 @@
+use Rattle.std.proofs.Common.{sym, subst}
+use Rattle.mw_decode.proofs.Ranges.{IsInsn-row}
+use Rattle.mw_isa.specs.Places.{HasRegisters}
+use Rattle.mw_isa.proofs.RowLaws.{registers}
+use Rattle.mw_isa.proofs.reading.operands.Goals as goal
+
+pub operation_at-requires : goal.operation_at-requires
+operation_at-requires g c = IsInsn-row c.args.insn.now c.requires
+
+pub sources-requires : goal.sources-requires
+sources-requires g c =
+    subst (HasRegisters c.args.insn.now) (sym c.places.ensures) (registers c.args.insn.now c.operation_at.result c.requires c.operation_at.ensures)
