@@ -10,7 +10,8 @@ use Rattle.mw_isa.specs.declared.outcome.Outcome.{Outcome}
 use Rattle.mw_isa.specs.State.{State}
 use Rattle.mw_soc.specs.Devices.{cycle_of}
 use Rattle.mw_isa.specs.Fetch.{fetched}
-use Rattle.mw_isa.specs.Execute.{operands_of, exec_of}
+use Rattle.mw_isa.specs.Reads.{operands_of}
+use Rattle.mw_isa.specs.Execute.{exec_of}
 use Rattle.mw_isa.specs.Step.{Stepped, after_of, decoded, builds, is_built, is_cut, is_built_outcome}
 use Rattle.mw_isa.specs.Replay.{acted}
 use Rattle.mw_isa.proofs.StepLaws.{step-known, builds-known, builds-not, builds-cut, acted-retire}

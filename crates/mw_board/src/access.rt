@@ -1,12 +1,14 @@
-ghost use Rattle.std.specs.Prelude.{◌≡◌, ◌<◌, ◌≤◌, ◌+◌, ◌%◌, ◌^◌, true, false, length, take, replicate, if◌then◌else◌};
+ghost use Rattle.std.specs.Prelude.{◌≡◌, ◌<◌, ◌≤◌, ◌+◌, ◌%◌, ◌^◌, true, false, length, take, replicate, if◌then◌else◌, Some, None};
 ghost use Rattle.mw_bus.specs.Memory.{bytes_at, laid, number_of};
-ghost use Rattle.mw_isa.specs.Access.{IsSized, accessed, block_of, first_byte, is_aligned, is_built_access, is_exclusive, is_in_ram, is_reserved, devices_loaded, devices_stored, load_bytes, load_number, needs_ram, ram_behind, raises_alignment, reaches_controller, real_byte, regs_behind, store_bytes, stored, with_gpr, with_reservation, with_success, with_update};
+ghost use Rattle.mw_isa.specs.Access.{IsSized, accessed, block_of, first_byte, is_aligned, is_built_access, is_exclusive, is_in_ram, is_reserved, devices_loaded, devices_stored, load_bytes, load_number, needs_ram, ram_behind, raises_alignment, reaches_controller, real_byte, regs_behind, store_bytes, stored, success_field, update_targets};
 ghost use Rattle.mw_isa.specs.Fetch.{real_of};
+ghost use Rattle.mw_isa.specs.Slots.{set_slot, set_targets};
 ghost use Rattle.mw_isa.specs.State.{seen};
+ghost use Rattle.mw_isa.specs.declared.slot.Slot.TheVariants.{CrField};
 
 use mw_bits::sext;
 use mw_bus::{Ram, number, number_bytes};
-use mw_isa::{MemOp, MemWhat, Regs, State};
+use mw_isa::{MemOp, MemWhat, Regs, Slot, State, set_slot};
 use mw_soc::Devices;
 
 /// The real address of an effective one while translation is off.
@@ -217,28 +219,19 @@ fn holds(op: &MemOp, reserve: Option<u32>) -> bool
     }
 }
 
-/// Sets a general purpose register.
-pub fn set_gpr(regs: &mut Regs, number: u8, value: u64)
-    ensures { regs.new ≡ with_gpr regs.old number value }
-{
-    if number < 32 {
-        regs.gpr[number as usize] = value;
-    }
-}
-
 /// Puts the effective address into RA, where the access updates it.
 fn update(op: &MemOp, regs: &mut Regs)
-    ensures { regs.new ≡ with_update op.now regs.old }
+    ensures { regs.new ≡ set_targets (update_targets op.now op.now.update) regs.old }
 {
     if let Some(number) = op.update {
-        set_gpr(regs, number, op.ea);
+        set_slot(regs, Slot::Gpr(number), op.ea);
     }
 }
 
 /// Reserves the block of an access that reserves.
 fn reserve_block(reserve: bool, op: &MemOp, regs: &mut Regs)
     requires { reserve ≡ true → block_of op.now < 2 ^ 32 }
-    ensures { regs.new ≡ with_reservation reserve op.now regs.old }
+    ensures { regs.new ≡ record regs.old { reserve = (if reserve then Some (block_of op.now) else regs.old.reserve) } }
 {
     if reserve {
         regs.reserve = Some(block(op) as u32);
@@ -247,11 +240,11 @@ fn reserve_block(reserve: bool, op: &MemOp, regs: &mut Regs)
 
 /// Says in CR field 0 whether a store-conditional stored, and ends the reservation.
 fn conclude(success: bool, regs: &mut Regs)
-    ensures { regs.new ≡ with_success success regs.old }
+    ensures { regs.new ≡ record (set_slot regs.old (CrField 0) (success_field success regs.old.xer)) { reserve = None } }
 {
     let stored = if success { 2 } else { 0 };
     let overflow = (regs.xer >> 31) % 2;
-    regs.cr = regs.cr % 0x1000_0000 + ((stored + overflow as u32) << 28);
+    set_slot(regs, Slot::CrField(0), stored + overflow);
     regs.reserve = None;
 }
 
@@ -266,7 +259,7 @@ fn load_into(signed: bool, reversed: bool, reserve: bool, op: &MemOp, state: &mu
     ensures room { state.new.devices.room ≡ state.old.devices.room }
 {
     let loaded = load(signed, reversed, op, &state.ram, &mut state.devices);
-    set_gpr(&mut state.regs, op.to, loaded);
+    set_slot(&mut state.regs, Slot::Gpr(op.to), loaded);
     update(op, &mut state.regs);
     reserve_block(reserve, op, &mut state.regs);
 }

@@ -1,22 +1,18 @@
-ghost use Rattle.std.specs.Prelude.{◌≡◌, ◌<◌, length, true, Some, is_some};
+ghost use Rattle.std.specs.Prelude.{◌≡◌, ◌<◌, true, Some, is_some};
 ghost use Rattle.mw_decode.specs.Decode.{IsInsn, is_prefix};
 ghost use Rattle.mw_isa.specs.Fetch.{fetched_at, suffix_at};
 ghost use Rattle.mw_tables.specs.Rows.{row_count};
-ghost use Rattle.mw_isa.specs.Execute.{operands_of, operands_by, sources_of, storage_sources, stored_place, operand_of, content_of, set_targets, set_target};
-ghost use Rattle.mw_isa.specs.Shaped.{IsPlaced, IsReady, IsRegister};
+ghost use Rattle.mw_isa.specs.Slots.{set_target, set_targets};
 ghost use Rattle.mw_isa.specs.State.{seen};
 ghost use Rattle.mw_isa.specs.Step.{after_of, is_built, is_built_outcome, is_cut, next_of, written};
 ghost use Rattle.mw_isa.specs.Access.{IsSized, OnMemory};
 ghost use Rattle.mw_board.specs.Plain.{Turns};
 
-use crate::access::{access, can_access, real, set_gpr};
+use crate::access::{access, can_access, real};
 use mw_bus::Ram;
 use mw_decode::{Decoded, Insn, decode, is_prefix};
 use mw_exec::{behind, exec, has_built_row};
-use mw_isa::{
-    AdderRow, Address, BranchRow, Event, LogicRow, MemWhat, Operands, Operation, Outcome, Regs,
-    Slot, State, Target, operation_at,
-};
+use mw_isa::{Event, Outcome, Regs, State, Target, operands, set_slot};
 
 /// A word, with the one behind it where it is a prefix.
 #[derive(Clone, Copy)]
@@ -50,121 +46,12 @@ fn fetch(ram: &Ram, cia: u64) -> Fetched
     }
 }
 
-/// The content of the register at a place among the operands.
-fn content(insn: &Insn, place: usize, regs: &Regs) -> u64
-    requires there { place < length insn.now.ops.items }
-    requires register { IsRegister insn.now place }
-    ensures { result ≡ content_of insn.now regs.now (Some place) }
-{
-    regs.gpr[insn.ops[place].cast_unsigned() as usize]
-}
-
-/// The operands of these contents and of the special registers.
-fn with_special(a: u64, b: u64, c: u64, regs: &Regs) -> Operands
-    ensures { result ≡ record { a = a; b = b; c = c; cr = regs.now.cr; xer = regs.now.xer; lr = regs.now.lr; ctr = regs.now.ctr; tar = regs.now.tar; msr = regs.now.msr } }
-{
-    Operands {
-        a,
-        b,
-        c,
-        cr: regs.cr,
-        xer: regs.xer,
-        lr: regs.lr,
-        ctr: regs.ctr,
-        tar: regs.tar,
-        msr: regs.msr,
-    }
-}
-
-/// What a row that adds reads.
-fn adder_operands(row: AdderRow, insn: &Insn, regs: &Regs) -> Operands
-    requires { IsReady (Operation.Adder row) insn.now }
-    ensures { result ≡ operands_by (sources_of (Operation.Adder row)) insn.now regs.now }
-{
-    match row {
-        AdderRow::Addi => with_special(content(insn, 1, regs), 0, 0, regs),
-        AdderRow::Addis => with_special(content(insn, 1, regs), 0, 0, regs),
-        AdderRow::Add => with_special(content(insn, 1, regs), content(insn, 2, regs), 0, regs),
-        AdderRow::Paddi => with_special(content(insn, 1, regs), 0, 0, regs),
-    }
-}
-
-/// The content that an access stores, or 0.
-fn stored_content(what: MemWhat, insn: &Insn, regs: &Regs) -> u64
-    requires some { 0 < length insn.now.ops.items }
-    requires register { IsRegister insn.now 0 }
-    ensures { result ≡ content_of insn.now regs.now (stored_place what) }
-{
-    match what {
-        MemWhat::Load { .. } => 0,
-        MemWhat::Store { .. } => content(insn, 0, regs),
-        MemWhat::Conditional { .. } => content(insn, 0, regs),
-        MemWhat::Zero => 0,
-        MemWhat::Clean => 0,
-        MemWhat::Icbi => 0,
-    }
-}
-
-/// What an access reads.
-fn storage_operands(address: Address, what: MemWhat, insn: &Insn, regs: &Regs) -> Operands
-    requires { IsPlaced address insn.now }
-    ensures { result ≡ operands_by (storage_sources address what) insn.now regs.now }
-{
-    match address {
-        Address::Displaced => with_special(
-            content(insn, 2, regs),
-            0,
-            stored_content(what, insn, regs),
-            regs,
-        ),
-        Address::Indexed => with_special(
-            content(insn, 1, regs),
-            content(insn, 2, regs),
-            stored_content(what, insn, regs),
-            regs,
-        ),
-        Address::Block => with_special(content(insn, 0, regs), content(insn, 1, regs), 0, regs),
-        Address::Prefixed => with_special(
-            content(insn, 2, regs),
-            0,
-            stored_content(what, insn, regs),
-            regs,
-        ),
-    }
-}
-
-/// What an operation reads.
-fn read_operands(operation: Operation, insn: &Insn, regs: &Regs) -> Operands
-    requires { IsReady operation insn.now }
-    ensures { result ≡ operands_by (sources_of operation) insn.now regs.now }
-{
-    match operation {
-        Operation::Adder(row) => adder_operands(row, insn, regs),
-        Operation::Logic(LogicRow::Ori) => with_special(content(insn, 1, regs), 0, 0, regs),
-        Operation::Branch(BranchRow::B) => with_special(0, 0, 0, regs),
-        Operation::Storage(row) => storage_operands(row.address, row.what, insn, regs),
-        Operation::Hint => with_special(0, 0, 0, regs),
-        Operation::Later => with_special(0, 0, 0, regs),
-    }
-}
-
-/// What an instruction reads of the registers.
-#[tactic(auto, unfolding(mw_isa::specs::Execute::operands_of))]
-fn operands(insn: &Insn, regs: &Regs) -> Operands
-    requires { IsInsn insn.now }
-    ensures { result ≡ operands_of insn.now regs.now }
-{
-    read_operands(operation_at(insn.row), insn, regs)
-}
-
 /// Writes a register with its value, if that is known.
 fn write_target(regs: &mut Regs, target: &Target)
     ensures { regs.new ≡ set_target target.now regs.old }
 {
     if let Some(value) = target.value {
-        match target.slot {
-            Slot::Gpr(number) => set_gpr(regs, number, value),
-        }
+        set_slot(regs, target.slot, value);
     }
 }
 
@@ -258,7 +145,7 @@ pub fn turn(state: &mut State) -> Option<Event>
     if !has_built_form(&insn) {
         return None;
     }
-    let outcome = exec(&insn, &operands(&insn, &state.regs), cia);
+    let outcome = exec(&insn, &operands(&insn, &state.regs, state.regs.msr), cia);
     if !has_built_outcome(&outcome) {
         return None;
     }

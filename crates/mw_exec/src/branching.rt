@@ -1,30 +1,29 @@
-ghost use Rattle.std.specs.Prelude.{◌≡◌, length};
+ghost use Rattle.std.specs.Prelude.{◌≡◌};
 ghost use Rattle.mw_isa.specs.Execute.{branch_of, target_of};
-ghost use Rattle.mw_isa.specs.Shaped.{IsReady};
 
-use crate::operand::{branch_without_link, operand};
+use crate::inputs::second;
+use crate::outcome::branch_without_link;
 use mw_decode::Insn;
-use mw_isa::{BranchRow, Operands, Operation, Outcome};
+use mw_isa::{BranchRow, Operands, Operation, Outcome, places};
 
 /// The address that a branch goes to: its displacement in bytes, from 0 where AA is 1, and from the
 /// branch where it is 0. Sums wrap at 2^64.
-fn target(insn: &Insn, cia: u64) -> u64
-    requires { length insn.now.ops.items ≡ 1 }
-    ensures { result ≡ target_of insn.now cia }
+fn target(displacement: u64, insn: &Insn, cia: u64) -> u64
+    ensures { result ≡ target_of displacement insn.now cia }
 {
     if insn.aa {
-        operand(insn, 0)
+        displacement
     } else {
-        cia.wrapping_add(operand(insn, 0))
+        cia.wrapping_add(displacement)
     }
 }
 
 /// What the rows that branch come to (Book I, branch instructions). LK isn't looked at.
 pub fn branch(row: BranchRow, insn: &Insn, operands: &Operands, cia: u64) -> Outcome
-    requires { IsReady (Operation.Branch row) insn.now }
     ensures { result ≡ branch_of row insn.now operands.now cia }
 {
+    let displacement = second(places(Operation::Branch(row)), insn, operands);
     match row {
-        BranchRow::B => branch_without_link(target(insn, cia)),
+        BranchRow::B => branch_without_link(target(displacement, insn, cia)),
     }
 }

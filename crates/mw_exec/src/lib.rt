@@ -1,14 +1,14 @@
 //! What an instruction comes to, by the unit that its row belongs to.
 #![tactic(auto)]
 
-mod adder;
+mod arithmetic;
 mod branching;
-mod logic;
-mod operand;
+mod inputs;
+mod outcome;
 mod storage;
 #[cfg(test)]
 mod tests;
 mod unit;
 
-pub use operand::behind;
+pub use outcome::behind;
 pub use unit::{exec, has_built_row};

@@ -3,8 +3,10 @@ ghost use Rattle.mw_decode.specs.Decode.{IsInsn};
 ghost use Rattle.mw_isa.specs.Access.{IsSized, OnMemory};
 ghost use Rattle.mw_isa.specs.Execute.{exec_of, is_built_row};
 
-use crate::operand::{behind, branch_without_link};
-use crate::{adder, branching, logic, storage};
+use crate::arithmetic::arithmetic;
+use crate::branching::branch;
+use crate::outcome::{behind, branch_without_link};
+use crate::storage::access;
 use mw_decode::Insn;
 use mw_isa::{Operands, Operation, Outcome, operation_at};
 
@@ -14,8 +16,7 @@ pub fn has_built_row(insn: &Insn) -> bool
     ensures { result ≡ is_built_row insn.now }
 {
     match operation_at(insn.row) {
-        Operation::Adder(_) => true,
-        Operation::Logic(_) => true,
+        Operation::Alu(_) => true,
         Operation::Branch(_) => true,
         Operation::Storage(_) => true,
         Operation::Hint => true,
@@ -34,10 +35,9 @@ pub fn exec(insn: &Insn, operands: &Operands, cia: u64) -> Outcome
     ensures sized { OnMemory IsSized result }
 {
     match operation_at(insn.row) {
-        Operation::Adder(row) => adder::add(row, insn, operands, cia),
-        Operation::Logic(row) => logic::combine(row, insn, operands, cia),
-        Operation::Branch(row) => branching::branch(row, insn, operands, cia),
-        Operation::Storage(row) => storage::access(row, insn, operands, cia),
+        Operation::Alu(row) => arithmetic(row, insn, operands, cia),
+        Operation::Branch(row) => branch(row, insn, operands, cia),
+        Operation::Storage(row) => access(row, insn, operands, cia),
         Operation::Hint => branch_without_link(behind(insn, cia)),
         Operation::Later => unreachable!(),
     }

@@ -1,5 +1,5 @@
 use Rattle.std.proofs.Common.{◌≡◌, drop}
-use Rattle.mw_isa.specs.Execute.{set_targets}
+use Rattle.mw_isa.specs.Slots.{set_targets}
 use Rattle.mw_board.proofs.plain.write_targets.Given as goal
 
 -- to write what is left leaves what to write all from the start leaves

@@ -1,0 +1,31 @@
+ghost use Rattle.std.specs.Prelude.{◌≡◌, ◌<◌};
+ghost use Rattle.mw_tables.specs.Rows.{row_count};
+ghost use Rattle.mw_isa.specs.Execute.{behind_insn, branch_to};
+
+use arrayvec::ArrayVec;
+use mw_decode::Insn;
+use mw_isa::Outcome;
+use mw_tables::{PrefixKind, row_at};
+
+/// The address behind an instruction: 4 bytes on, or 8 where it has a prefix.
+pub fn behind(insn: &Insn, cia: u64) -> u64
+    requires { insn.now.row < row_count }
+    ensures { result ≡ behind_insn insn.now cia }
+{
+    match row_at(insn.row).prefix {
+        PrefixKind::Plain => cia.wrapping_add(4),
+        PrefixKind::Mls => cia.wrapping_add(4).wrapping_add(4),
+        PrefixKind::Eight => cia.wrapping_add(4).wrapping_add(4),
+        PrefixKind::Nop => cia.wrapping_add(4).wrapping_add(4),
+    }
+}
+
+/// No register is written, and the instruction at this address follows.
+pub fn branch_without_link(next: u64) -> Outcome
+    ensures { result ≡ branch_to next }
+{
+    Outcome::Done {
+        targets: ArrayVec::new(),
+        next,
+    }
+}
