@@ -1,3 +1,2 @@
-pub mod PlainLemmas
+pub mod TurnLemmas
 pub mod RunLemmas
-pub mod AccessLemmas

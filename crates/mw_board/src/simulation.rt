@@ -6,8 +6,8 @@ ghost use Rattle.mw_isa.specs.Runs.{Runs};
 ghost use Rattle.mw_isa.specs.Unbuilt.{first_unbuilt};
 ghost use Rattle.mw_board.specs.Faults.{HasCause};
 
-use crate::plain::turn;
 use crate::run::{Run, RunFault};
+use crate::turn::turned;
 use mw_bus::{RAM_SIZE, Ram};
 use mw_isa::{End, Events, Regs, State};
 use mw_soc::Devices;
@@ -41,7 +41,7 @@ pub fn simulate(alloc: Global, image: &[u8], n: u64) -> Result<Run, RunFault>
     let mut events = Events::new(alloc);
     for cycle in 0..n {
         state.devices.advance(cycle);
-        let Some(event) = turn(&mut state) else {
+        let Some(event) = turned(&mut state) else {
             return Err(RunFault::Unbuilt {
                 cycle,
                 cia: state.regs.cia,

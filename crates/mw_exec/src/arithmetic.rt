@@ -4,8 +4,8 @@ ghost use Rattle.mw_isa.specs.Places.{HasRegisters, IsRegister, places_of};
 ghost use Rattle.mw_isa.specs.Reads.{register_at};
 ghost use Rattle.mw_tables.specs.Rows.{row_count};
 
-use crate::inputs::{first, second};
-use crate::outcome::behind;
+use crate::inputs::{a_of, b_of};
+use crate::outcome::behind_insn;
 use arrayvec::ArrayVec;
 use mw_alu::{AluOut, alu};
 use mw_decode::Insn;
@@ -14,7 +14,7 @@ use mw_isa::{
 };
 
 /// The carry that the unit takes.
-fn carry_in(carry: Carry, operands: &Operands) -> bool
+fn carry_of(carry: Carry, operands: &Operands) -> bool
     ensures { result ≡ carry_of carry operands.now }
 {
     let _ = operands;
@@ -24,21 +24,21 @@ fn carry_in(carry: Carry, operands: &Operands) -> bool
 }
 
 /// What the unit gives for an arithmetic row.
-fn out(row: AluRow, places: Places, insn: &Insn, operands: &Operands, cia: u64) -> AluOut
+fn out_of(row: AluRow, places: Places, insn: &Insn, operands: &Operands, cia: u64) -> AluOut
     requires { places ≡ places_of (Operation.Alu row) }
     ensures { result ≡ out_of row insn.now operands.now cia }
 {
     alu(
         row.op,
-        first(places, insn, operands, cia),
-        second(places, insn, operands),
+        a_of(places, insn, operands, cia),
+        b_of(places, insn, operands),
         operands.c,
-        carry_in(row.carry, operands),
+        carry_of(row.carry, operands),
     )
 }
 
 /// The register at a place, with the result.
-fn result(place: Option<u8>, insn: &Insn, value: u64) -> ArrayVec<Target, 8>
+fn result_at(place: Option<u8>, insn: &Insn, value: u64) -> ArrayVec<Target, 8>
     requires { IfSome place (IsRegister insn.now) }
     ensures { result.items ≡ result_at (register_at insn.now place) value }
 {
@@ -53,30 +53,30 @@ fn result(place: Option<u8>, insn: &Insn, value: u64) -> ArrayVec<Target, 8>
 }
 
 /// What is written at the end of an arithmetic row, in order.
-fn finish(ending: Ending, places: Places, insn: &Insn, out: AluOut) -> ArrayVec<Target, 8>
+fn ended(ending: Ending, places: Places, insn: &Insn, out: AluOut) -> ArrayVec<Target, 8>
     requires { HasRegisters insn.now places }
     ensures { result.items ≡ ended ending places insn.now out }
 {
     match ending {
-        Ending::Plain => result(places.written, insn, out.value),
+        Ending::Plain => result_at(places.written, insn, out.value),
     }
 }
 
 /// What a row comes to whose result is there in one cycle (Book I, fixed-point arithmetic and logical
 /// instructions).
-pub fn arithmetic(row: AluRow, insn: &Insn, operands: &Operands, cia: u64) -> Outcome
+pub fn arithmetic_of(row: AluRow, insn: &Insn, operands: &Operands, cia: u64) -> Outcome
     requires row { insn.now.row < row_count }
     requires registers { HasRegisters insn.now (places_of (Operation.Alu row)) }
     ensures { result ≡ arithmetic_of row insn.now operands.now cia }
 {
     let places = places(Operation::Alu(row));
     Outcome::Done {
-        targets: finish(
+        targets: ended(
             row.ending,
             places,
             insn,
-            out(row, places, insn, operands, cia),
+            out_of(row, places, insn, operands, cia),
         ),
-        next: behind(insn, cia),
+        next: behind_insn(insn, cia),
     }
 }

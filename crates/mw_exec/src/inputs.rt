@@ -16,7 +16,7 @@ fn is_operand(insn: &Insn, place: Option<u8>, number: u64) -> bool
 
 /// The number that a unit takes as a: the content that was read; 0 where RA|0 is register 0; the
 /// instruction's own address where R is 1.
-pub fn first(places: Places, insn: &Insn, operands: &Operands, cia: u64) -> u64
+pub fn a_of(places: Places, insn: &Insn, operands: &Operands, cia: u64) -> u64
     ensures { result ≡ a_of places insn.now operands.now cia }
 {
     if is_operand(insn, places.own, 1) {
@@ -29,7 +29,7 @@ pub fn first(places: Places, insn: &Insn, operands: &Operands, cia: u64) -> u64
 }
 
 /// The number that a unit takes as b: the one among the operands, or the content that was read.
-pub fn second(places: Places, insn: &Insn, operands: &Operands) -> u64
+pub fn b_of(places: Places, insn: &Insn, operands: &Operands) -> u64
     ensures { result ≡ b_of places insn.now operands.now }
 {
     match places.number {

@@ -10,5 +10,5 @@ mod storage;
 mod tests;
 mod unit;
 
-pub use outcome::behind;
-pub use unit::{exec, has_built_row};
+pub use outcome::behind_insn;
+pub use unit::{exec, is_built_row};

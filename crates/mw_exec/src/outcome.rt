@@ -8,7 +8,7 @@ use mw_isa::Outcome;
 use mw_tables::{PrefixKind, row_at};
 
 /// The address behind an instruction: 4 bytes on, or 8 where it has a prefix.
-pub fn behind(insn: &Insn, cia: u64) -> u64
+pub fn behind_insn(insn: &Insn, cia: u64) -> u64
     requires { insn.now.row < row_count }
     ensures { result ≡ behind_insn insn.now cia }
 {
@@ -21,7 +21,7 @@ pub fn behind(insn: &Insn, cia: u64) -> u64
 }
 
 /// No register is written, and the instruction at this address follows.
-pub fn branch_without_link(next: u64) -> Outcome
+pub fn branch_to(next: u64) -> Outcome
     ensures { result ≡ branch_to next }
 {
     Outcome::Done {

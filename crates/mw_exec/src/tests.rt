@@ -31,7 +31,7 @@ fn outcome(word: u32, suffix: u32, [a, b]: [u64; 2], cia: u64) -> Option<Outcome
     };
     match decoded(word, suffix) {
         Decoded::Insn(insn) => {
-            if has_built_row(&insn) {
+            if is_built_row(&insn) {
                 Some(exec(&insn, &operands, cia))
             } else {
                 None

@@ -3,15 +3,15 @@ ghost use Rattle.mw_decode.specs.Decode.{IsInsn};
 ghost use Rattle.mw_isa.specs.Access.{IsSized, OnMemory};
 ghost use Rattle.mw_isa.specs.Execute.{exec_of, is_built_row};
 
-use crate::arithmetic::arithmetic;
-use crate::branching::branch;
-use crate::outcome::{behind, branch_without_link};
-use crate::storage::access;
+use crate::arithmetic::arithmetic_of;
+use crate::branching::branch_of;
+use crate::outcome::{behind_insn, branch_to};
+use crate::storage::storage_of;
 use mw_decode::Insn;
 use mw_isa::{Operands, Operation, Outcome, operation_at};
 
 /// Whether an instruction's row is built, so that `exec` can be asked.
-pub fn has_built_row(insn: &Insn) -> bool
+pub fn is_built_row(insn: &Insn) -> bool
     requires { IsInsn insn.now }
     ensures { result ≡ is_built_row insn.now }
 {
@@ -35,10 +35,10 @@ pub fn exec(insn: &Insn, operands: &Operands, cia: u64) -> Outcome
     ensures sized { OnMemory IsSized result }
 {
     match operation_at(insn.row) {
-        Operation::Alu(row) => arithmetic(row, insn, operands, cia),
-        Operation::Branch(row) => branch(row, insn, operands, cia),
-        Operation::Storage(row) => access(row, insn, operands, cia),
-        Operation::Hint => branch_without_link(behind(insn, cia)),
+        Operation::Alu(row) => arithmetic_of(row, insn, operands, cia),
+        Operation::Branch(row) => branch_of(row, insn, operands, cia),
+        Operation::Storage(row) => storage_of(row, insn, operands, cia),
+        Operation::Hint => branch_to(behind_insn(insn, cia)),
         Operation::Later => unreachable!(),
     }
 }

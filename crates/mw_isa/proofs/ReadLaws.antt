@@ -23,7 +23,6 @@ use Rattle.mw_isa.specs.Operations.{operations}
 use Rattle.mw_isa.specs.Places.{places_of}
 use Rattle.mw_isa.specs.Reads.{Agree, fields_of, has_slot, held, no_sources, operands_at, operands_by, operands_in, part_of, read_slots, reads_by, reads_of, slots_in, sources_at, special_reads, register_at}
 use Rattle.mw_isa.specs.Slots.{bits_of, bits_with, same_slot, slots_of}
-use Rattle.mw_isa.specs.State.{State}
 use Rattle.mw_isa.specs.Targets.{access_slots, ending_slots, targets_by, targets_of, update_slots, written_slots}
 use Rattle.mw_isa.proofs.SlotLaws.{same_slot-is}
 
@@ -142,10 +141,10 @@ update-slots op None = refl
 update-slots op (Some n) = refl
 
 -- an access writes these registers
-pub access-slots : (what : MemWhat) (op : MemOp) (state : State) → slots_of (access_targets what op state) ≡ access_slots what op.to op.update
-access-slots (Load signed reversed reserve) op state = ap (λ (slots : List Slot). Gpr op.to ∷ slots) (update-slots op op.update)
-access-slots (Store reversed) op state = update-slots op op.update
-access-slots (Conditional reversed) op state = refl
-access-slots Zero op state = refl
-access-slots Clean op state = refl
-access-slots Icbi op state = refl
+pub access-slots : (what : MemWhat) (op : MemOp) (number : ℕ) (reserved : Bool) (xer : ℕ) → slots_of (access_targets what op number reserved xer) ≡ access_slots what op.to op.update
+access-slots (Load signed reversed reserve) op number reserved xer = ap (λ (slots : List Slot). Gpr op.to ∷ slots) (update-slots op op.update)
+access-slots (Store reversed) op number reserved xer = update-slots op op.update
+access-slots (Conditional reversed) op number reserved xer = refl
+access-slots Zero op number reserved xer = refl
+access-slots Clean op number reserved xer = refl
+access-slots Icbi op number reserved xer = refl

@@ -16,7 +16,7 @@ use Rattle.mw_isa.specs.Execute.{exec_of}
 use Rattle.mw_soc.specs.DeviceData.{DeviceData}
 use Rattle.mw_soc.specs.Devices.{cycle_of}
 use Rattle.mw_soc.proofs.Laws.{cycle-device_load, cycle-device_store}
-use Rattle.mw_isa.specs.Access.{accessed, is_in_ram, devices_behind}
+use Rattle.mw_isa.specs.Access.{accessed, is_in_ram, is_reserved, stores, devices_loaded, devices_stored}
 use Rattle.mw_isa.specs.Step.{Stepped, step, step_of, step_by, insn_in, outcome_of, written, after_of, decoded, builds, is_built, is_cut, is_built_outcome}
 use Rattle.mw_isa.specs.Replay.{acted, retires, same_suffix}
 
@@ -61,34 +61,41 @@ builds-cut state cut = ap (λ (b : Bool). not b && (is_built (decoded state) && 
 both : {a b : Bool} → a ≡ true → b ≡ true → (a && b) ≡ true
 both p q = ap₂ (λ (x : Bool) (y : Bool). x && y) p q
 
--- an instruction that is built retires, by the words that it was made of, and leaves what its outcome leaves
-pub acted-retire : (cycle : ℕ) (insn : Insn) (outcome : Outcome) (state : State) → decoded state ≡ Is insn → builds state ≡ true → exec_of insn (operands_of insn state.regs) state.regs.cia ≡ Some outcome → acted (Retire cycle state.regs.cia (fetched state).word (fetched state).suffix) state ≡ Some (after_of (Some insn) (Some outcome) state.regs.cia state)
+-- an instruction that is built retires, by the words that it is made of
+retires-built : (state : State) → builds state ≡ true → retires state state.regs.cia (fetched state).word (fetched state).suffix ≡ true
+unfolding step
+retires-built state b =
+    both b (both (eq-eqb state.regs.cia state.regs.cia refl) (both (eq-eqb (fetched state).word (fetched state).word refl) (same_suffix-refl (fetched state).suffix)))
+
+-- and leaves what its step leaves
+pub acted-built : (cycle : ℕ) (state : State) → builds state ≡ true → acted (Retire cycle state.regs.cia (fetched state).word (fetched state).suffix) state ≡ Some (step state).after
 unfolding acted
-acted-retire cycle insn outcome state d b e =
-    let s = step-known insn outcome state d e in
-    let t : retires state state.regs.cia (fetched state).word (fetched state).suffix ≡ true =
-    both b (ap (λ (r : Stepped). not (is_some r.trap) && ((state.regs.cia == state.regs.cia) && ((r.word == (fetched state).word) && same_suffix r.suffix (fetched state).suffix))) s
-    ∙ both (eq-eqb state.regs.cia state.regs.cia refl) (both (eq-eqb (fetched state).word (fetched state).word refl) (same_suffix-refl (fetched state).suffix))) in
-    ap₂ (λ (c : Bool) (r : Stepped). cond c (Some r.after) None) t s
+acted-built cycle state b = ap (λ (c : Bool). cond c (Some (step state).after) None) (retires-built state b)
 
 -- of two devices with one cycle either has it
 one-cycle : (b : Bool) (x y : DeviceData) (cycle : ℕ) → cycle_of x ≡ cycle → cycle_of y ≡ cycle → cycle_of (cond b x y) ≡ cycle
 one-cycle true x y cycle p q = p
 one-cycle false x y cycle p q = q
 
--- an access leaves the devices' cycle
-devices_behind-cycle : (what : MemWhat) (op : MemOp) (state : State) → cycle_of (devices_behind what op state) ≡ cycle_of state.devices
-devices_behind-cycle (Load signed reversed reserve) op state = one-cycle (is_in_ram op) state.devices _ (cycle_of state.devices) refl (cycle-device_load state.devices _)
-devices_behind-cycle (Store reversed) op state = one-cycle (is_in_ram op) state.devices _ (cycle_of state.devices) refl (cycle-device_store state.devices _ _)
-devices_behind-cycle (Conditional reversed) op state = refl
-devices_behind-cycle Zero op state = refl
-devices_behind-cycle Clean op state = refl
-devices_behind-cycle Icbi op state = refl
+-- a load leaves the devices' cycle
+loaded-cycle : (what : MemWhat) (op : MemOp) (devices : DeviceData) → cycle_of (devices_loaded what op devices) ≡ cycle_of devices
+loaded-cycle (Load signed reversed reserve) op devices = one-cycle (is_in_ram op) devices _ (cycle_of devices) refl (cycle-device_load devices _)
+loaded-cycle (Store reversed) op devices = refl
+loaded-cycle (Conditional reversed) op devices = refl
+loaded-cycle Zero op devices = refl
+loaded-cycle Clean op devices = refl
+loaded-cycle Icbi op devices = refl
 
--- and so it does whole
+-- and so does a store
+stored-cycle : (op : MemOp) (reserved : Bool) (devices : DeviceData) → cycle_of (devices_stored op reserved devices) ≡ cycle_of devices
+stored-cycle op reserved devices = one-cycle (stores op.what reserved && not (is_in_ram op)) _ devices (cycle_of devices) (cycle-device_store devices _ _) refl
+
+-- and an access whole
 accessed-cycle : (op : MemOp) (state : State) → cycle_of (accessed op state).devices ≡ cycle_of state.devices
 unfolding accessed
-accessed-cycle op state = devices_behind-cycle op.what op state
+accessed-cycle op state =
+    stored-cycle op (is_reserved op state.regs.reserve) (devices_loaded op.what op state.devices)
+    ∙ loaded-cycle op.what op state.devices
 
 -- an outcome leaves it
 written-cycle : (outcome : Outcome) (state : State) → cycle_of (written outcome state).devices ≡ cycle_of state.devices

@@ -98,30 +98,33 @@ extended signed len number = if signed then sext_of number (8 * len) else number
 abbrev pub load_bytes : MemOp → List ℕ → DeviceData → List ℕ
 load_bytes op ram devices = if is_in_ram op then bytes_at ram (real_byte op) op.len else take op.len (device_loaded devices (real_byte op) op.len)
 
--- the number that a load gives
-abbrev pub load_number : Bool → Bool → MemOp → List ℕ → DeviceData → ℕ
-load_number signed reversed op ram devices = extended signed op.len (number_of reversed op.len (load_bytes op ram devices))
+-- the number that the bytes of a load hold, extended; of any other access 0
+abbrev pub loaded_number : MemWhat → ℕ → List ℕ → ℕ
+loaded_number (Load signed reversed reserve) len bytes = extended signed len (number_of reversed len bytes)
+loaded_number what len bytes = 0
 
--- the devices behind a load, which one of them sees where RAM isn't
-abbrev pub devices_loaded : MemOp → DeviceData → DeviceData
-devices_loaded op devices = if is_in_ram op then devices else after_device_load devices (real_byte op)
-
--- the bytes that a store writes: the low bytes of the register
+-- the low bytes of the register that is stored
 abbrev pub store_bytes : Bool → MemOp → List ℕ
 store_bytes reversed op = bytes_of reversed op.len (op.value % 256 ^ op.len)
 
--- RAM behind a store; a byte where RAM isn't vanishes
-abbrev pub stored : Bool → MemOp → List ℕ → List ℕ
-stored reversed op ram = laid ram (real_byte op) (store_bytes reversed op)
-
--- the devices behind a store, which one of them sees where RAM isn't
-abbrev pub devices_stored : Bool → MemOp → DeviceData → DeviceData
-devices_stored reversed op devices = if is_in_ram op then devices else after_device_store devices (real_byte op) (store_bytes reversed op)
+-- the bytes that an access stores: those of a register, or zeros
+abbrev pub stored_bytes : MemWhat → MemOp → List ℕ
+stored_bytes (Store reversed) op = store_bytes reversed op
+stored_bytes (Conditional reversed) op = store_bytes reversed op
+stored_bytes Zero op = replicate 64 0
+stored_bytes what op = []
 
 -- a reservation stands for the block
 abbrev pub is_reserved : MemOp → Option ℕ → Bool
 is_reserved op None = false
 is_reserved op (Some block) = block == block_of op
+
+-- an access stores its bytes, a store-conditional where its block is reserved
+abbrev pub stores : MemWhat → Bool → Bool
+stores (Store reversed) reserved = true
+stores (Conditional reversed) reserved = reserved
+stores Zero reserved = true
+stores what reserved = false
 
 -- CR field 0 of a store-conditional: 0, 0, whether it stored, and SO
 abbrev pub success_field : Bool → ℕ → ℕ
@@ -132,12 +135,12 @@ abbrev pub update_targets : MemOp → Option ℕ → List Target
 update_targets op None = []
 update_targets op (Some n) = known (Gpr n) op.ea ∷ []
 
--- the registers that an access writes, with their values, in order
-abbrev pub access_targets : MemWhat → MemOp → State → List Target
-access_targets (Load signed reversed reserve) op state = known (Gpr op.to) (load_number signed reversed op state.ram state.devices) ∷ update_targets op op.update
-access_targets (Store reversed) op state = update_targets op op.update
-access_targets (Conditional reversed) op state = known (CrField 0) (success_field (is_reserved op state.regs.reserve) state.regs.xer) ∷ []
-access_targets what op state = []
+-- the registers that an access writes, in order, given the number that it loads, whether its block is reserved, and XER
+abbrev pub access_targets : MemWhat → MemOp → ℕ → Bool → ℕ → List Target
+access_targets (Load signed reversed reserve) op number reserved xer = known (Gpr op.to) number ∷ update_targets op op.update
+access_targets (Store reversed) op number reserved xer = update_targets op op.update
+access_targets (Conditional reversed) op number reserved xer = known (CrField 0) (success_field reserved xer) ∷ []
+access_targets what op number reserved xer = []
 
 -- the reservation behind an access: a load-and-reserve reserves its block, a store-conditional ends every reservation
 abbrev pub reserve_behind : MemWhat → MemOp → Option ℕ → Option ℕ
@@ -145,31 +148,34 @@ reserve_behind (Load signed reversed reserve) op before = if reserve then Some (
 reserve_behind (Conditional reversed) op before = None
 reserve_behind what op before = before
 
--- what an access makes of the registers
-abbrev pub regs_behind : MemWhat → MemOp → State → Regs
-regs_behind what op state = record (set_targets (access_targets what op state) state.regs) { reserve = reserve_behind what op state.regs.reserve }
+-- what an access makes of the registers, given the number that it loads and whether its block is reserved
+abbrev pub regs_behind : MemOp → ℕ → Bool → Regs → Regs
+regs_behind op number reserved regs = record (set_targets (access_targets op.what op number reserved regs.xer) regs) { reserve = reserve_behind op.what op regs.reserve }
 
--- and of RAM
-abbrev pub ram_behind : MemWhat → MemOp → State → List ℕ
-ram_behind (Load signed reversed reserve) op state = state.ram
-ram_behind (Store reversed) op state = stored reversed op state.ram
-ram_behind (Conditional reversed) op state = if is_reserved op state.regs.reserve then stored reversed op state.ram else state.ram
-ram_behind Zero op state = laid state.ram (real_byte op) (replicate 64 0)
-ram_behind Clean op state = state.ram
-ram_behind Icbi op state = state.ram
+-- RAM behind an access that lies in it
+abbrev pub ram_behind : MemOp → Bool → List ℕ → List ℕ
+ram_behind op reserved ram = if stores op.what reserved && is_in_ram op then laid ram (real_byte op) (stored_bytes op.what op) else ram
 
--- and of the devices
-abbrev pub devices_behind : MemWhat → MemOp → State → DeviceData
-devices_behind (Load signed reversed reserve) op state = devices_loaded op state.devices
-devices_behind (Store reversed) op state = devices_stored reversed op state.devices
-devices_behind (Conditional reversed) op state = state.devices
-devices_behind Zero op state = state.devices
-devices_behind Clean op state = state.devices
-devices_behind Icbi op state = state.devices
+-- the devices behind a load, which one of them sees where RAM isn't
+abbrev pub devices_loaded : MemWhat → MemOp → DeviceData → DeviceData
+devices_loaded (Load signed reversed reserve) op devices = if is_in_ram op then devices else after_device_load devices (real_byte op)
+devices_loaded what op devices = devices
+
+-- the devices behind a store, which one of them sees where RAM isn't
+abbrev pub devices_stored : MemOp → Bool → DeviceData → DeviceData
+devices_stored op reserved devices = if stores op.what reserved && not (is_in_ram op) then after_device_store devices (real_byte op) (stored_bytes op.what op) else devices
+
+-- the state behind an access, given the number that it loads and whether its block is reserved
+abbrev pub accessed_by : MemOp → ℕ → Bool → State → State
+accessed_by op number reserved state = record {
+  regs = regs_behind op number reserved state.regs;
+  ram = ram_behind op reserved state.ram;
+  devices = devices_stored op reserved (devices_loaded op.what op state.devices);
+}
 
 -- the state behind an access, at the same instruction
 unfoldable pub accessed : MemOp → State → State
-accessed op state = record { regs = regs_behind op.what op state; ram = ram_behind op.what op state; devices = devices_behind op.what op state }
+accessed op state = accessed_by op (loaded_number op.what op.len (load_bytes op state.ram state.devices)) (is_reserved op state.regs.reserve) state
 
 -- how many bytes lie in the first page
 abbrev pub in_page : ℕ → ℕ → ℕ

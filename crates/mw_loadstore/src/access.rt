@@ -17,7 +17,7 @@ pub struct Piece {
 /// addresses go on at 0 behind the last one (Book I, effective address calculation).
 pub fn pieces(ea: u64, len: u8) -> ArrayVec<Piece, 2>
     requires some { 1 ≤ len }
-    requires few { len ≤ 8 }
+    requires few { len ≤ 64 }
     ensures value { result.items ≡ pieces_of ea len }
     ensures whole { sum_by piece_len result.items ≡ len }
     ensures joined { flat_map piece_addresses result.items ≡ addresses_from ea len }

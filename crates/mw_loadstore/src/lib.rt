@@ -1,10 +1,20 @@
-//! What a load or a store of 1 to 8 bytes is made of: the pieces of the access, each in one block of
-//! 64 bytes, and the bytes of two pieces put together.
+//! An access to storage without storage: where it lies, whether it is built, the number that its bytes hold, the bytes
+//! that it stores, and what it does to the registers; and the pieces of an access, each in one block of 64 bytes.
 #![tactic(auto)]
 
 mod access;
+mod address;
+mod built;
+mod load;
+mod registers;
+mod store;
 
 pub use access::{Piece, merge, pieces};
+pub use address::{block_of, is_in_ram, real_byte};
+pub use built::is_built_access;
+pub use load::loaded_number;
+pub use registers::{is_reserved, regs_behind};
+pub use store::{front_len, stored_bytes, stores};
 
 #[cfg(test)]
 mod tests {

@@ -12,7 +12,7 @@ loop-cycle-init c = (
 
 pub loop-cycle-preserved : goal.loop-cycle-preserved
 loop-cycle-preserved c = (
-  made-next c.args.image.now c.args.n c.loop-cycle.events c.push.new.self c.loop-cycle.cycle c.in-Some.event (seen c.loop-cycle.state) (seen c.turn.new.state) c.advance.new.self.devices c.loop-cycle-test.true c.loop-cycle.invariant.0 (ap (λ (h : Housed). h.devices) c.advance.ensures) c.in-Some.ensures.turns c.in-Ok-push.ensures.ok,
+  made-next c.args.image.now c.args.n c.loop-cycle.events c.push.new.self c.loop-cycle.cycle c.in-Some.event (seen c.loop-cycle.state) (seen c.turned.new.state) c.advance.new.self.devices c.loop-cycle-test.true c.loop-cycle.invariant.0 (ap (λ (h : Housed). h.devices) c.advance.ensures) c.in-Some.ensures.turns c.in-Ok-push.ensures.ok,
   c.in-Some.ensures.room ∙ ap (λ (h : Housed). h.room) c.advance.ensures ∙ c.loop-cycle.invariant.1,
 )
 

@@ -9,18 +9,18 @@ use Rattle.mw_exec.proofs.unit.exec.Goals as goal
 pub operation_at-requires : goal.operation_at-requires
 operation_at-requires c = IsInsn-row c.args.insn.now c.requires.insn
 
-pub arithmetic-requires-clause-row : goal.arithmetic-requires-clause-row
-arithmetic-requires-clause-row c = IsInsn-row c.args.insn.now c.requires.insn
+pub arithmetic_of-requires-clause-row : goal.arithmetic_of-requires-clause-row
+arithmetic_of-requires-clause-row c = IsInsn-row c.args.insn.now c.requires.insn
 
-pub behind-requires : goal.behind-requires
-behind-requires c = IsInsn-row c.args.insn.now c.requires.insn
+pub behind_insn-requires : goal.behind_insn-requires
+behind_insn-requires c = IsInsn-row c.args.insn.now c.requires.insn
 
-pub arithmetic-requires-clause-registers : goal.arithmetic-requires-clause-registers
-arithmetic-requires-clause-registers c = registers c.args.insn.now (Alu c.in-Alu.row) c.requires.insn c.in-Alu.ensures
+pub arithmetic_of-requires-clause-registers : goal.arithmetic_of-requires-clause-registers
+arithmetic_of-requires-clause-registers c = registers c.args.insn.now (Alu c.in-Alu.row) c.requires.insn c.in-Alu.ensures
 
-pub access-requires : goal.access-requires
-access-requires c = registers c.args.insn.now (Storage c.in-Storage.row) c.requires.insn c.in-Storage.ensures
+pub storage_of-requires : goal.storage_of-requires
+storage_of-requires c = registers c.args.insn.now (Storage c.in-Storage.row) c.requires.insn c.in-Storage.ensures
 
 pub returns-in-Storage-clause-sized : goal.returns-in-Storage-clause-sized
 returns-in-Storage-clause-sized c =
-    subst (OnMemory IsSized) (sym c.access.ensures) (storage-sized c.args.insn.now.row c.in-Storage.row c.in-Storage.ensures)
+    subst (OnMemory IsSized) (sym c.storage_of.ensures) (storage-sized c.args.insn.now.row c.in-Storage.row c.in-Storage.ensures)

@@ -1,0 +1,86 @@
+ghost use Rattle.std.specs.Prelude.{◌≡◌, ◌<◌, true, Some};
+ghost use Rattle.mw_tables.specs.Rows.{row_count};
+ghost use Rattle.mw_isa.specs.Access.{IsSized, OnMemory};
+ghost use Rattle.mw_isa.specs.Slots.{set_target, set_targets};
+ghost use Rattle.mw_isa.specs.State.{seen};
+ghost use Rattle.mw_isa.specs.Step.{after_of, is_built_outcome, next_of, step, written};
+ghost use Rattle.mw_step.specs.Prepared.{IsPrepared, retired};
+
+use crate::prepared::Prepared;
+use crate::storage::access;
+use mw_decode::Insn;
+use mw_exec::behind_insn;
+use mw_isa::{Event, Outcome, Regs, State, Target, set_slot};
+
+/// Writes a register with its value, if that is known.
+fn set_target(target: &Target, regs: &mut Regs)
+    ensures { regs.new ≡ set_target target.now regs.old }
+{
+    if let Some(value) = target.value {
+        set_slot(regs, target.slot, value);
+    }
+}
+
+/// Writes registers in order.
+fn set_targets(targets: &[Target], regs: &mut Regs)
+    ensures { regs.new ≡ set_targets targets.now regs.old }
+{
+    for target in targets {
+        set_target(target, regs);
+    }
+}
+
+/// Writes what an outcome writes.
+fn write(outcome: &Outcome, state: &mut State)
+    requires sized { OnMemory IsSized outcome.now }
+    requires built { is_built_outcome (Some outcome.now) ≡ true }
+    ensures value { seen state.new ≡ written outcome.now (seen state.old) }
+    ensures room { state.new.devices.room ≡ state.old.devices.room }
+{
+    match outcome {
+        Outcome::Done { targets, .. } => set_targets(targets.as_slice(), &mut state.regs),
+        Outcome::Memory(op) => access(op, state),
+    }
+}
+
+/// The address of the next instruction.
+fn next_of(insn: &Insn, outcome: &Outcome, cia: u64) -> u64
+    requires { insn.now.row < row_count }
+    ensures { result ≡ next_of insn.now outcome.now cia }
+{
+    match outcome {
+        Outcome::Done { next, .. } => *next,
+        Outcome::Memory(_) => behind_insn(insn, cia),
+    }
+}
+
+/// Leaves the state behind an instruction at an address.
+fn finish(insn: &Insn, outcome: &Outcome, cia: u64, state: &mut State)
+    requires row { insn.now.row < row_count }
+    requires sized { OnMemory IsSized outcome.now }
+    requires built { is_built_outcome (Some outcome.now) ≡ true }
+    ensures value { seen state.new ≡ after_of (Some insn.now) (Some outcome.now) cia (seen state.old) }
+    ensures room { state.new.devices.room ≡ state.old.devices.room }
+{
+    write(outcome, state);
+    state.regs.cia = next_of(insn, outcome, cia);
+}
+
+/// Carries out the next instruction, as it was prepared, at the devices' cycle: the state is then the one
+/// behind it, and the event says that it retired (Books I to III). It can't fail and takes no memory.
+pub fn carry_out(state: &mut State, prepared: &Prepared) -> Event
+    requires { IsPrepared prepared.now (seen state.old) }
+    ensures event { result ≡ retired (seen state.old) }
+    ensures after { seen state.new ≡ (step (seen state.old)).after }
+    ensures room { state.new.devices.room ≡ state.old.devices.room }
+{
+    let cia = state.regs.cia;
+    let cycle = state.devices.cycle();
+    finish(&prepared.insn, &prepared.outcome, cia, state);
+    Event::Retire {
+        cycle,
+        cia,
+        word: prepared.words.word,
+        suffix: prepared.words.suffix,
+    }
+}

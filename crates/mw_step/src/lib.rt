@@ -1,0 +1,13 @@
+//! The executable step of the sequential machine: what the next instruction is and comes to, told before anything
+//! changes, and the same carried out.
+#![tactic(auto)]
+
+mod carry;
+mod fetch;
+mod look;
+mod prepared;
+mod storage;
+
+pub use carry::carry_out;
+pub use look::prepare;
+pub use prepared::{Fetched, Prepared};
