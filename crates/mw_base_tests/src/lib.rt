@@ -16,6 +16,8 @@ mod io;
 #[cfg(test)]
 mod loadstore;
 #[cfg(test)]
+mod operands;
+#[cfg(test)]
 mod prefix;
 #[cfg(test)]
 mod soc;
