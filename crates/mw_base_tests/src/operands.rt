@@ -99,6 +99,7 @@ static R_WIDE_CASES: [Case; 2] = [
 
 #[test]
 fn operands_stand_in_their_bits(rt: HostRuntime) {
+    // D of DX, SPR, SH and MB of MD, DS, LI, BD, D in 34 bits, R of the prefix
     reads(&rt, &fields_of_layout(Layout::DxRtD)[1], &DX_D_CASES);
     reads(&rt, &fields_of_layout(Layout::XfxRtSpr)[1], &SPR_CASES);
     reads(
@@ -132,10 +133,10 @@ fn holds(rt: &impl Abort, field: &Field, inside: &[i64], outside: &[i64])
 
 #[test]
 fn ranges_end_where_they_should(rt: HostRuntime) {
-    // LK of a row that has it, and of one that doesn't
     let b = row_at(17);
     let addi = row_at(0);
     assert!(rt; b.name == "b" && addi.name == "addi");
+    // RT, LK of a row that has it and of one that doesn't, UI, SI, D of DX, DS, BD, LI, D in 34 bits
     holds(&rt, &fields_of_layout(Layout::XRt)[0], &[0, 31], &[-1, 32]);
     holds(&rt, &flags_of_row(b)[3], &[0, 1], &[-1, 2]);
     holds(&rt, &flags_of_row(addi)[3], &[0], &[-1, 1]);
