@@ -1,5 +1,5 @@
 use Rattle.std.proofs.Common.{◌≡◌}
-use Rattle.mw_uart.proofs.tests.one_step_is_many.Given as goal
+use Rattle.mw_base_tests.proofs.uart.one_step_is_many.Given as goal
 
 abbrev pub invariant-loop-byte : goal.invariant-loop-byte
 invariant-loop-byte g l = (l.one.room ≡ 64) × (l.many.room ≡ 64)

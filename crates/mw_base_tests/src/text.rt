@@ -1,4 +1,4 @@
-use crate::{LineFault, Token, TokenKind, read_line};
+use mw_text::{LineFault, Token, TokenKind, read_line};
 use std::test::Fail;
 
 /// A line and its tokens.

@@ -1,5 +1,5 @@
-use super::*;
 use mw_bits::Bytes;
+use mw_digits::{add_decimal, add_hex, add_short_hex, add_signed, hexadecimal, write_hex};
 use std::test::Fail;
 
 #[test]

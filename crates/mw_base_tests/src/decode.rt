@@ -1,4 +1,4 @@
-use crate::*;
+use mw_decode::{Decoded, Facility, decode, is_illegal_form, is_prefix};
 use mw_tables::by_name;
 
 /// What a word is, with this suffix where it is a prefix.
