@@ -7,10 +7,3 @@ mod turn;
 
 pub use run::{Run, RunFault};
 pub use simulation::simulate;
-
-#[cfg(test)]
-mod device_tests;
-#[cfg(test)]
-mod storage_tests;
-#[cfg(test)]
-mod tests;

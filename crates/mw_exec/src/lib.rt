@@ -6,8 +6,6 @@ mod branching;
 mod inputs;
 mod outcome;
 mod storage;
-#[cfg(test)]
-mod tests;
 mod unit;
 
 pub use outcome::behind_insn;

@@ -1,0 +1,53 @@
+use mw_alu::AluOp;
+use mw_isa::{
+    AluRow, BranchRow, Carry, Ending, Event, Events, Inputs, Operation, Regs, Vector, operation_at,
+};
+use mw_tables::row_at;
+use std::test::Fail;
+
+/// An arithmetic row that takes no carry and writes nothing beside its result.
+fn alu(op: AluOp, inputs: Inputs) -> Operation {
+    Operation::Alu(AluRow {
+        op,
+        inputs,
+        carry: Carry::Zero,
+        ending: Ending::Plain,
+    })
+}
+
+#[test]
+fn the_start_is_the_boards(rt: HostRuntime) {
+    // SF, HV, ME and LE are the bits 0, 3, 51 and 63 of MSR, counted from the left.
+    assert_eq!(rt; Regs::new().msr, (1 << 63) | (1 << 60) | (1 << 12) | 1);
+}
+
+#[test]
+fn operations_go_by_the_table(rt: HostRuntime) {
+    for (row, name, operation) in [
+        (0, "addi", alu(AluOp::Addi, Inputs::BaseNumber)),
+        (1, "addis", alu(AluOp::Addis, Inputs::BaseNumber)),
+        (10, "ori", alu(AluOp::Ori, Inputs::SourceNumber)),
+        (17, "b", Operation::Branch(BranchRow::B)),
+        (43, "add", alu(AluOp::Add, Inputs::Two)),
+        (44, "subf", Operation::Later),
+        (212, "paddi", alu(AluOp::Paddi, Inputs::Relative)),
+        (223, "pnop", Operation::Hint),
+    ] {
+        assert!(rt; row < 224);
+        assert!(rt; row_at(row).name == name, "{name}");
+        assert_eq!(rt; operation_at(row), operation, "{name}");
+    }
+}
+
+#[test]
+fn events_are_kept(rt: HostRuntime) -> Result<(), Fail> {
+    let mut events = Events::new(rt.alloc());
+    let event = Event::Irq {
+        cycle: 7,
+        nia: 4,
+        vector: Vector::Decrementer,
+    };
+    events.push(event)?;
+    assert_eq!(rt; events.as_slice(), [event].as_slice());
+    Ok(())
+}

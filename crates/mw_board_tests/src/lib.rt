@@ -1,0 +1,17 @@
+//! The tests of the machine, from one instruction to a run and its text, over their public calls.
+#![tactic(auto)]
+
+#[cfg(test)]
+mod devices;
+#[cfg(test)]
+mod exec;
+#[cfg(test)]
+mod isa;
+#[cfg(test)]
+mod loadstore;
+#[cfg(test)]
+mod runs;
+#[cfg(test)]
+mod storage;
+#[cfg(test)]
+mod trace;
