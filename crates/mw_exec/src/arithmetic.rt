@@ -10,7 +10,7 @@ use arrayvec::ArrayVec;
 use mw_alu::{AluOut, alu};
 use mw_decode::Insn;
 use mw_isa::{
-    AluRow, Carry, Ending, Operands, Operation, Outcome, Places, Slot, Target, places, register,
+    AluRow, Carry, Ending, Operands, Operation, Outcome, Places, Slot, Target, places_of, register,
 };
 
 /// The carry that the unit takes.
@@ -69,7 +69,7 @@ pub fn arithmetic_of(row: AluRow, insn: &Insn, operands: &Operands, cia: u64) ->
     requires registers { HasRegisters insn.now (places_of (Operation.Alu row)) }
     ensures { result ≡ arithmetic_of row insn.now operands.now cia }
 {
-    let places = places(Operation::Alu(row));
+    let places = places_of(Operation::Alu(row));
     Outcome::Done {
         targets: ended(
             row.ending,

@@ -4,7 +4,7 @@ ghost use Rattle.mw_isa.specs.Execute.{branch_of, target_of};
 use crate::inputs::b_of;
 use crate::outcome::branch_to;
 use mw_decode::Insn;
-use mw_isa::{BranchRow, Operands, Operation, Outcome, places};
+use mw_isa::{BranchRow, Operands, Operation, Outcome, places_of};
 
 /// The address that a branch goes to: its displacement in bytes, from 0 where AA is 1, and from the
 /// branch where it is 0. Sums wrap at 2^64.
@@ -22,7 +22,7 @@ fn target_of(displacement: u64, insn: &Insn, cia: u64) -> u64
 pub fn branch_of(row: BranchRow, insn: &Insn, operands: &Operands, cia: u64) -> Outcome
     ensures { result ≡ branch_of row insn.now operands.now cia }
 {
-    let displacement = b_of(places(Operation::Branch(row)), insn, operands);
+    let displacement = b_of(places_of(Operation::Branch(row)), insn, operands);
     match row {
         BranchRow::B => branch_to(target_of(displacement, insn, cia)),
     }

@@ -4,7 +4,9 @@ ghost use Rattle.mw_isa.specs.Places.{HasRegisters, places_of};
 
 use crate::inputs::{a_of, b_of};
 use mw_decode::Insn;
-use mw_isa::{MemOp, Operands, Operation, Outcome, Places, StorageRow, loaded, places, updated};
+use mw_isa::{
+    MemOp, Operands, Operation, Outcome, Places, StorageRow, loaded_of, places_of, updated_of,
+};
 
 /// The effective address.
 fn effective_of(places: Places, insn: &Insn, operands: &Operands, cia: u64) -> u64
@@ -19,13 +21,13 @@ pub fn storage_of(row: StorageRow, insn: &Insn, operands: &Operands, cia: u64) -
     requires { HasRegisters insn.now (places_of (Operation.Storage row)) }
     ensures { result ≡ storage_of row insn.now operands.now cia }
 {
-    let places = places(Operation::Storage(row));
+    let places = places_of(Operation::Storage(row));
     Outcome::Memory(MemOp {
         what: row.what,
         ea: effective_of(places, insn, operands, cia),
         len: row.len,
         value: operands.c,
-        to: loaded(insn, places),
-        update: updated(insn, row, places),
+        to: loaded_of(insn, places),
+        update: updated_of(insn, row, places),
     })
 }

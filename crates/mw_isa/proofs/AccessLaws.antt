@@ -7,7 +7,9 @@ use Rattle.mw_isa.specs.declared.operation.Operation.{Operation}
 use Rattle.mw_isa.specs.declared.operation.Operation.TheVariants.{Alu, Branch, Storage, Hint, Later}
 use Rattle.mw_isa.specs.declared.operation.StorageRow.{StorageRow}
 use Rattle.mw_isa.specs.Operations.{operations, operation_lines}
-use Rattle.mw_isa.specs.Access.{is_sized_by}
+use Rattle.mw_isa.specs.declared.memory.MemOp.{MemOp}
+use Rattle.mw_isa.specs.State.{State}
+use Rattle.mw_isa.specs.Access.{is_sized_by, accessed, accessed_as}
 
 -- the length of an operation's access, if it has one, is one of its lengths
 abbrev sized_operation : Operation → Bool
@@ -61,3 +63,8 @@ sized-some (Conditional reversed) len e = let f = four_lengths len e in (f.0, om
 sized-some Zero len e = (grind (arith, nat_tests), grind (arith, nat_tests))
 sized-some Clean len e = (grind (arith, nat_tests), grind (arith, nat_tests))
 sized-some Icbi len e = (grind (arith, nat_tests), grind (arith, nat_tests))
+
+-- an access that does this leaves what such an access leaves
+pub accessed-what : (what : MemWhat) (op : MemOp) (state : State) → op.what ≡ what → accessed op state ≡ accessed_as what op state
+unfolding accessed
+accessed-what what op state e = ap (λ (does : MemWhat). accessed_as does op state) e

@@ -87,14 +87,14 @@ loaded-cycle Clean op devices = refl
 loaded-cycle Icbi op devices = refl
 
 -- and so does a store
-stored-cycle : (op : MemOp) (reserved : Bool) (devices : DeviceData) → cycle_of (devices_stored op reserved devices) ≡ cycle_of devices
-stored-cycle op reserved devices = one-cycle (stores op.what reserved && not (is_in_ram op)) _ devices (cycle_of devices) (cycle-device_store devices _ _) refl
+stored-cycle : (what : MemWhat) (op : MemOp) (reserved : Bool) (devices : DeviceData) → cycle_of (devices_stored what op reserved devices) ≡ cycle_of devices
+stored-cycle what op reserved devices = one-cycle (stores what reserved && not (is_in_ram op)) _ devices (cycle_of devices) (cycle-device_store devices _ _) refl
 
 -- and an access whole
 accessed-cycle : (op : MemOp) (state : State) → cycle_of (accessed op state).devices ≡ cycle_of state.devices
 unfolding accessed
 accessed-cycle op state =
-    stored-cycle op (is_reserved op state.regs.reserve) (devices_loaded op.what op state.devices)
+    stored-cycle op.what op (is_reserved op state.regs.reserve) (devices_loaded op.what op state.devices)
     ∙ loaded-cycle op.what op state.devices
 
 -- an outcome leaves it

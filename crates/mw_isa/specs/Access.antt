@@ -149,12 +149,12 @@ reserve_behind (Conditional reversed) op before = None
 reserve_behind what op before = before
 
 -- what an access makes of the registers, given the number that it loads and whether its block is reserved
-abbrev pub regs_behind : MemOp → ℕ → Bool → Regs → Regs
-regs_behind op number reserved regs = record (set_targets (access_targets op.what op number reserved regs.xer) regs) { reserve = reserve_behind op.what op regs.reserve }
+abbrev pub regs_behind : MemWhat → MemOp → ℕ → Bool → Regs → Regs
+regs_behind what op number reserved regs = record (set_targets (access_targets what op number reserved regs.xer) regs) { reserve = reserve_behind what op regs.reserve }
 
 -- RAM behind an access that lies in it
-abbrev pub ram_behind : MemOp → Bool → List ℕ → List ℕ
-ram_behind op reserved ram = if stores op.what reserved && is_in_ram op then laid ram (real_byte op) (stored_bytes op.what op) else ram
+abbrev pub ram_behind : MemWhat → MemOp → Bool → List ℕ → List ℕ
+ram_behind what op reserved ram = if stores what reserved && is_in_ram op then laid ram (real_byte op) (stored_bytes what op) else ram
 
 -- the devices behind a load, which one of them sees where RAM isn't
 abbrev pub devices_loaded : MemWhat → MemOp → DeviceData → DeviceData
@@ -162,20 +162,24 @@ devices_loaded (Load signed reversed reserve) op devices = if is_in_ram op then 
 devices_loaded what op devices = devices
 
 -- the devices behind a store, which one of them sees where RAM isn't
-abbrev pub devices_stored : MemOp → Bool → DeviceData → DeviceData
-devices_stored op reserved devices = if stores op.what reserved && not (is_in_ram op) then after_device_store devices (real_byte op) (stored_bytes op.what op) else devices
+abbrev pub devices_stored : MemWhat → MemOp → Bool → DeviceData → DeviceData
+devices_stored what op reserved devices = if stores what reserved && not (is_in_ram op) then after_device_store devices (real_byte op) (stored_bytes what op) else devices
 
--- the state behind an access, given the number that it loads and whether its block is reserved
-abbrev pub accessed_by : MemOp → ℕ → Bool → State → State
-accessed_by op number reserved state = record {
-  regs = regs_behind op number reserved state.regs;
-  ram = ram_behind op reserved state.ram;
-  devices = devices_stored op reserved (devices_loaded op.what op state.devices);
+-- the state behind an access that does this, given the number that it loads and whether its block is reserved
+abbrev pub accessed_by : MemWhat → MemOp → ℕ → Bool → State → State
+accessed_by what op number reserved state = record {
+  regs = regs_behind what op number reserved state.regs;
+  ram = ram_behind what op reserved state.ram;
+  devices = devices_stored what op reserved (devices_loaded what op state.devices);
 }
+
+-- the same from the bytes and the reservation that are there
+abbrev pub accessed_as : MemWhat → MemOp → State → State
+accessed_as what op state = accessed_by what op (loaded_number what op.len (load_bytes op state.ram state.devices)) (is_reserved op state.regs.reserve) state
 
 -- the state behind an access, at the same instruction
 unfoldable pub accessed : MemOp → State → State
-accessed op state = accessed_by op (loaded_number op.what op.len (load_bytes op state.ram state.devices)) (is_reserved op state.regs.reserve) state
+accessed op state = accessed_as op.what op state
 
 -- how many bytes lie in the first page
 abbrev pub in_page : ℕ → ℕ → ℕ

@@ -1,5 +1,5 @@
 -- One instruction, carried out on a state whose devices stand at its cycle (Books I to III).
-use Rattle.std.specs.Prelude.{ℕ, ◌%◌, ◌==◌, Bool, true, false, not, ◌&&◌, List, [], ◌∷◌, Option, Some, None, option_and_then}
+use Rattle.std.specs.Prelude.{ℕ, ◌≡◌, ◌%◌, ◌==◌, Bool, true, false, not, ◌&&◌, List, [], ◌∷◌, Option, Some, None, option_and_then}
 use Rattle.mw_decode.specs.declared.insn.Insn.{Insn}
 use Rattle.mw_decode.specs.declared.insn.Decoded.{Decoded}
 use Rattle.mw_decode.specs.declared.insn.Decoded.TheVariants.{Insn as Is, Unavailable, Alignment, Illegal}
@@ -17,7 +17,7 @@ use Rattle.mw_isa.specs.Fetch.{Fetched, fetched}
 use Rattle.mw_isa.specs.Slots.{set_targets}
 use Rattle.mw_isa.specs.Reads.{operands_of}
 use Rattle.mw_isa.specs.Execute.{exec_of, behind_insn, is_built_row}
-use Rattle.mw_isa.specs.Access.{accessed, is_built_access, touches_of, deed_by}
+use Rattle.mw_isa.specs.Access.{IsSized, OnMemory, accessed, is_built_access, touches_of, deed_by}
 
 -- an interrupt that an instruction raises: its vector, its cause in SRR1, and DAR and DSISR where they change
 pub record Raised : Type 0 where
@@ -122,6 +122,11 @@ abbrev pub is_built_outcome : Option Outcome → Bool
 is_built_outcome None = false
 is_built_outcome (Some (Done targets next)) = true
 is_built_outcome (Some (Memory op)) = is_built_access op
+
+-- what is known of an outcome that can be carried out: an access has one of its lengths, and it is built
+pub record CanFinish (outcome : Outcome) : Type 0 where
+  pub sized : OnMemory IsSized outcome
+  pub built : is_built_outcome (Some outcome) ≡ true
 
 -- the next instruction is built
 unfoldable pub builds : State → Bool

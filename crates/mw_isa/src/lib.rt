@@ -29,8 +29,8 @@ pub use operation::{
 };
 pub use outcome::{Operands, Outcome, Target};
 pub use place::Places;
-pub use placing::{operand, places, register};
-pub use reading::{SlotView, loaded, operands, reads, targets, updated};
+pub use placing::{operand, places_of, register};
+pub use reading::{SlotView, loaded_of, operands, reads, targets, updated_of};
 pub use real::real_of;
 pub use regs::Regs;
 pub use slot::Slot;

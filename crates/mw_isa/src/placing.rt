@@ -124,7 +124,7 @@ fn branch_places(row: BranchRow) -> Places
 }
 
 /// Where the operands of an operation stand, by what they are to it (Book I, instruction formats).
-pub fn places(operation: Operation) -> Places
+pub fn places_of(operation: Operation) -> Places
     ensures { result ≡ places_of operation }
 {
     match operation {

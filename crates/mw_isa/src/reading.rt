@@ -11,7 +11,7 @@ use crate::memory::MemWhat;
 use crate::operation::{Ending, Operation, StorageRow, operation_at};
 use crate::outcome::Operands;
 use crate::place::Places;
-use crate::placing::{operand, places, register};
+use crate::placing::{operand, places_of, register};
 use crate::regs::Regs;
 use crate::slot::Slot;
 use crate::slot_set::SlotSet;
@@ -38,7 +38,7 @@ impl SlotView for Regs {
 }
 
 /// The register at a place, if there is one.
-fn register_there(insn: &Insn, place: Option<u8>) -> Option<Slot>
+fn register_at(insn: &Insn, place: Option<u8>) -> Option<Slot>
     requires { IfSome place (IsRegister insn.now) }
     ensures value { result ≡ register_at insn.now place }
     ensures there { IfSome result IsSlot }
@@ -50,7 +50,7 @@ fn register_there(insn: &Insn, place: Option<u8>) -> Option<Slot>
 }
 
 /// The register at a place, but register 0 (RA|0).
-fn base_there(insn: &Insn, place: Option<u8>) -> Option<Slot>
+fn base_at(insn: &Insn, place: Option<u8>) -> Option<Slot>
     requires { IfSome place (IsRegister insn.now) }
     ensures value { result ≡ base_at insn.now place }
     ensures there { IfSome result IsSlot }
@@ -68,20 +68,20 @@ fn base_there(insn: &Insn, place: Option<u8>) -> Option<Slot>
 }
 
 /// The register that is read as a.
-fn first_there(insn: &Insn, first: Option<u8>, base: Option<u8>) -> Option<Slot>
+fn first_source(insn: &Insn, first: Option<u8>, base: Option<u8>) -> Option<Slot>
     requires first { IfSome first (IsRegister insn.now) }
     requires base { IfSome base (IsRegister insn.now) }
     ensures value { result ≡ first_source insn.now first base }
     ensures there { IfSome result IsSlot }
 {
     match first {
-        None => base_there(insn, base),
+        None => base_at(insn, base),
         Some(at) => Some(Slot::Gpr(register(insn, at))),
     }
 }
 
 /// The registers among the operands that are read.
-fn sources(insn: &Insn, places: Places) -> Sources
+fn sources_at(insn: &Insn, places: Places) -> Sources
     requires { HasRegisters insn.now places }
     ensures value { result ≡ sources_at places insn.now }
     ensures a { IfSome result.a IsSlot }
@@ -89,9 +89,9 @@ fn sources(insn: &Insn, places: Places) -> Sources
     ensures c { IfSome result.c IsSlot }
 {
     Sources {
-        a: first_there(insn, places.first, places.base),
-        b: register_there(insn, places.second),
-        c: register_there(insn, places.third),
+        a: first_source(insn, places.first, places.base),
+        b: register_at(insn, places.second),
+        c: register_at(insn, places.third),
     }
 }
 
@@ -106,7 +106,7 @@ fn held<V: SlotView>(view: &V, slot: Option<Slot>) -> u64
 }
 
 /// The operands that are made of these registers as they are seen.
-fn operands_there<V: SlotView>(sources: Sources, view: &V, msr: u64) -> Operands
+fn operands_by<V: SlotView>(sources: Sources, view: &V, msr: u64) -> Operands
     ensures { result ≡ operands_by sources [] (V.view view.now) msr }
 {
     Operands {
@@ -129,7 +129,11 @@ pub fn operands<V: SlotView>(insn: &Insn, view: &V, msr: u64) -> Operands
     requires { IsInsn insn.now }
     ensures { result ≡ operands_in insn.now (V.view view.now) msr }
 {
-    operands_there(sources(insn, places(operation_at(insn.row))), view, msr)
+    operands_by(
+        sources_at(insn, places_of(operation_at(insn.row))),
+        view,
+        msr,
+    )
 }
 
 /// The registers that an instruction reads, as a set, known from the instruction alone. It can't fail.
@@ -137,7 +141,7 @@ pub fn reads(insn: &Insn) -> SlotSet
     requires { IsInsn insn.now }
     ensures { result.bits ≡ bits_of (reads_of insn.now) }
 {
-    let sources = sources(insn, places(operation_at(insn.row)));
+    let sources = sources_at(insn, places_of(operation_at(insn.row)));
     SlotSet::NONE
         .with(sources.c)
         .with(sources.b)
@@ -145,7 +149,7 @@ pub fn reads(insn: &Insn) -> SlotSet
 }
 
 /// The register that is loaded, or 0 where none is.
-pub fn loaded(insn: &Insn, places: Places) -> u8
+pub fn loaded_of(insn: &Insn, places: Places) -> u8
     requires { HasRegisters insn.now places }
     ensures value { result ≡ loaded_of places insn.now }
     ensures bound { result < 32 }
@@ -157,7 +161,7 @@ pub fn loaded(insn: &Insn, places: Places) -> u8
 }
 
 /// The register that gets the effective address, where the row updates it.
-pub fn updated(insn: &Insn, row: StorageRow, places: Places) -> Option<u8>
+pub fn updated_of(insn: &Insn, row: StorageRow, places: Places) -> Option<u8>
     requires { HasRegisters insn.now places }
     ensures value { result ≡ updated_of row places insn.now }
     ensures bound { IfSome result (λ n. n < 32) }
@@ -215,7 +219,7 @@ fn ending_set(ending: Ending, insn: &Insn, places: Places) -> SlotSet
     ensures { result.bits ≡ bits_of (ending_slots ending places insn.now) }
 {
     match ending {
-        Ending::Plain => only(register_there(insn, places.written)),
+        Ending::Plain => only(register_at(insn, places.written)),
     }
 }
 
@@ -224,14 +228,14 @@ fn operation_set(operation: Operation, insn: &Insn) -> SlotSet
     requires { HasRegisters insn.now (places_of operation) }
     ensures { result.bits ≡ bits_of (targets_by operation insn.now) }
 {
-    let places = places(operation);
+    let places = places_of(operation);
     match operation {
         Operation::Alu(row) => ending_set(row.ending, insn, places),
         Operation::Branch(_) => SlotSet::NONE,
         Operation::Storage(row) => access_set(
             row.what,
-            loaded(insn, places),
-            updated(insn, row, places),
+            loaded_of(insn, places),
+            updated_of(insn, row, places),
         ),
         Operation::Hint => SlotSet::NONE,
         Operation::Later => SlotSet::NONE,

@@ -12,7 +12,7 @@ pub struct SlotSet {
 }
 
 /// The number of a register's bit.
-fn number(slot: Slot) -> u8
+fn slot_number(slot: Slot) -> u8
     requires { IsSlot slot }
     ensures value { result ≡ slot_number slot }
     ensures bound { result < 44 }
@@ -39,7 +39,7 @@ impl SlotSet {
         match slot {
             None => self,
             Some(slot) => SlotSet {
-                bits: 1 << number(slot) | self.bits,
+                bits: 1 << slot_number(slot) | self.bits,
             },
         }
     }

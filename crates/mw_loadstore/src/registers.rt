@@ -80,7 +80,7 @@ fn reserve_behind(op: &MemOp, before: Option<u32>) -> Option<u32>
 pub fn regs_behind(op: &MemOp, number: u64, reserved: bool, regs: &mut Regs)
     requires sized { IsSized op.now }
     requires built { is_built_access op.now ≡ true }
-    ensures { regs.new ≡ regs_behind op.now number reserved regs.old }
+    ensures { regs.new ≡ regs_behind op.now.what op.now number reserved regs.old }
 {
     let before = regs.reserve;
     write_registers(op, number, reserved, regs);

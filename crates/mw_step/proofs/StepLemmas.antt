@@ -63,19 +63,9 @@ prepared-is state prepared operands m whole built o e done is sized =
           builds-known prepared.insn prepared.outcome state d x
           ∙ ap₂ (λ (c : Bool) (b : Bool). not c && b) (ap (λ (n : ℕ). is_cut n state.regs.cia) (sym m.word_is) ∙ whole) (ap₂ (λ (p : Bool) (q : Bool). p && q) built done);
       is = is;
-      sized = sized;
+      can = record { sized = sized; built = done };
     }
 
--- the last of three tests that hold
-last_holds : (a b c : Bool) → (a && (b && c)) ≡ true → c ≡ true
-last_holds true true c e = e
-last_holds true false c e = cc
-last_holds false b c e = cc
-
--- what is prepared comes to something that is built
-pub prepared-built : (prepared : Prepared) (state : State) → IsPrepared prepared state → is_built_outcome (Some prepared.outcome) ≡ true
-prepared-built prepared state p = last_holds _ _ _ (sym (builds-known prepared.insn prepared.outcome state p.insn p.outcome) ∙ p.built)
-
--- and its step leaves what its outcome leaves
+-- the step of what is prepared leaves what its outcome leaves
 pub prepared-after : (prepared : Prepared) (state : State) → IsPrepared prepared state → (step state).after ≡ after_of (Some prepared.insn) (Some prepared.outcome) state.regs.cia state
 prepared-after prepared state p = ap (λ (s : Stepped). s.after) (step-known prepared.insn prepared.outcome state p.insn p.outcome)

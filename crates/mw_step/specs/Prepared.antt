@@ -8,8 +8,7 @@ use Rattle.mw_isa.specs.State.{State}
 use Rattle.mw_isa.specs.Fetch.{fetched}
 use Rattle.mw_isa.specs.Reads.{operands_of}
 use Rattle.mw_isa.specs.Execute.{exec_of}
-use Rattle.mw_isa.specs.Access.{IsSized, OnMemory}
-use Rattle.mw_isa.specs.Step.{decoded, builds}
+use Rattle.mw_isa.specs.Step.{CanFinish, decoded, builds}
 use Rattle.mw_soc.specs.Devices.{cycle_of}
 use Rattle.mw_step.specs.declared.prepared.Prepared.{Prepared}
 
@@ -22,8 +21,8 @@ pub record IsPrepared (prepared : Prepared) (state : State) : Type 0 where
   pub built : builds state ≡ true
   -- which is an instruction of the table
   pub is : IsInsn prepared.insn
-  -- and an access has one of its lengths
-  pub sized : OnMemory IsSized prepared.outcome
+  -- and comes to what can be carried out
+  pub can : CanFinish prepared.outcome
 
 -- the next instruction retires at the devices' cycle
 abbrev pub retired : State → Event

@@ -1,9 +1,8 @@
-ghost use Rattle.std.specs.Prelude.{◌≡◌, ◌<◌, true, Some};
+ghost use Rattle.std.specs.Prelude.{◌≡◌, ◌<◌, Some};
 ghost use Rattle.mw_tables.specs.Rows.{row_count};
-ghost use Rattle.mw_isa.specs.Access.{IsSized, OnMemory};
 ghost use Rattle.mw_isa.specs.Slots.{set_target, set_targets};
 ghost use Rattle.mw_isa.specs.State.{seen};
-ghost use Rattle.mw_isa.specs.Step.{after_of, is_built_outcome, next_of, step, written};
+ghost use Rattle.mw_isa.specs.Step.{CanFinish, after_of, next_of, step, written};
 ghost use Rattle.mw_step.specs.Prepared.{IsPrepared, retired};
 
 use crate::prepared::Prepared;
@@ -32,8 +31,7 @@ fn set_targets(targets: &[Target], regs: &mut Regs)
 
 /// Writes what an outcome writes.
 fn write(outcome: &Outcome, state: &mut State)
-    requires sized { OnMemory IsSized outcome.now }
-    requires built { is_built_outcome (Some outcome.now) ≡ true }
+    requires { CanFinish outcome.now }
     ensures value { seen state.new ≡ written outcome.now (seen state.old) }
     ensures room { state.new.devices.room ≡ state.old.devices.room }
 {
@@ -57,8 +55,7 @@ fn next_of(insn: &Insn, outcome: &Outcome, cia: u64) -> u64
 /// Leaves the state behind an instruction at an address.
 fn finish(insn: &Insn, outcome: &Outcome, cia: u64, state: &mut State)
     requires row { insn.now.row < row_count }
-    requires sized { OnMemory IsSized outcome.now }
-    requires built { is_built_outcome (Some outcome.now) ≡ true }
+    requires can { CanFinish outcome.now }
     ensures value { seen state.new ≡ after_of (Some insn.now) (Some outcome.now) cia (seen state.old) }
     ensures room { state.new.devices.room ≡ state.old.devices.room }
 {

@@ -62,8 +62,8 @@ fn lay(op: &MemOp, bytes: &[u8], ram: &mut Ram)
 fn store(op: &MemOp, reserved: bool, ram: &mut Ram, devices: &mut Devices)
     requires sized { IsSized op.now }
     requires built { is_built_access op.now ≡ true }
-    ensures ram { ram.new ≡ ram_behind op.now reserved ram.old }
-    ensures devices { devices.new ≡ record devices.old { devices = devices_stored op.now reserved devices.old.devices } }
+    ensures ram { ram.new ≡ ram_behind op.now.what op.now reserved ram.old }
+    ensures devices { devices.new ≡ record devices.old { devices = devices_stored op.now.what op.now reserved devices.old.devices } }
 {
     if stores(op.what, reserved) {
         let bytes = stored_bytes(op);

@@ -7,6 +7,6 @@ use Rattle.mw_isa.proofs.reading.operands.Goals as goal
 pub operation_at-requires : goal.operation_at-requires
 operation_at-requires g c = IsInsn-row c.args.insn.now c.requires
 
-pub sources-requires : goal.sources-requires
-sources-requires g c =
-    subst (HasRegisters c.args.insn.now) (sym c.places.ensures) (registers c.args.insn.now c.operation_at.result c.requires c.operation_at.ensures)
+pub sources_at-requires : goal.sources_at-requires
+sources_at-requires g c =
+    subst (HasRegisters c.args.insn.now) (sym c.places_of.ensures) (registers c.args.insn.now c.operation_at.result c.requires c.operation_at.ensures)

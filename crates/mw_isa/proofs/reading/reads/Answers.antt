@@ -11,12 +11,12 @@ use Rattle.mw_isa.proofs.reading.reads.Goals as goal
 pub operation_at-requires : goal.operation_at-requires
 operation_at-requires c = IsInsn-row c.args.insn.now c.requires
 
-pub sources-sources-requires : goal.sources-sources-requires
-sources-sources-requires c =
-    subst (HasRegisters c.args.insn.now) (sym c.places.ensures) (registers c.args.insn.now c.operation_at.result c.requires c.operation_at.ensures)
+pub sources_at-sources-requires : goal.sources_at-sources-requires
+sources_at-sources-requires c =
+    subst (HasRegisters c.args.insn.now) (sym c.places_of.ensures) (registers c.args.insn.now c.operation_at.result c.requires c.operation_at.ensures)
 
 pub returns : goal.returns
 returns c =
     c.with-3.ensures
-    ∙ ap (bits_with c.sources-sources.result.a) (c.with-2.ensures ∙ ap (bits_with c.sources-sources.result.b) c.with.ensures)
-    ∙ sym (reads_of-bits c.args.insn.now c.operation_at.result c.sources-sources.result c.operation_at.ensures (c.sources-sources.ensures.value ∙ ap (λ (places : Places). sources_at places c.args.insn.now) c.places.ensures))
+    ∙ ap (bits_with c.sources_at-sources.result.a) (c.with-2.ensures ∙ ap (bits_with c.sources_at-sources.result.b) c.with.ensures)
+    ∙ sym (reads_of-bits c.args.insn.now c.operation_at.result c.sources_at-sources.result c.operation_at.ensures (c.sources_at-sources.ensures.value ∙ ap (λ (places : Places). sources_at places c.args.insn.now) c.places_of.ensures))
