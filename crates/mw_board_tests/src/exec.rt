@@ -1,7 +1,7 @@
 ghost use Rattle.mw_decode.specs.Decode.{OnInsn, IsInsn};
 
-use super::*;
 use mw_decode::{Decoded, decode, is_prefix};
+use mw_exec::{exec, has_built_row};
 use mw_isa::{Operands, Outcome, Slot, Target};
 
 /// What a word is, with this suffix where it is a prefix.

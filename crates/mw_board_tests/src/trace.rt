@@ -1,9 +1,9 @@
 ghost use Rattle.std.specs.Prelude.{◌≡◌, ◌+◌, ◌≤◌, length};
 
-use super::print;
 use mw_bus::Ram;
 use mw_isa::{End, Event, Regs, Span, State, Vector};
 use mw_soc::Devices;
+use mw_trace::print;
 use std::alloc::{AllocError as NoMemory, Global};
 use std::process::Abort;
 use std::test::Fail;

@@ -1,4 +1,4 @@
-use super::{RunFault, simulate};
+use mw_board::{RunFault, simulate};
 use mw_isa::{End, Event};
 use std::alloc::{AllocError as NoMemory, Global};
 use std::test::Fail;

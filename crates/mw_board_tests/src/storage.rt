@@ -1,6 +1,6 @@
 ghost use Rattle.std.specs.Prelude.{◌<◌, ◌^◌};
 
-use super::{Run, RunFault, simulate};
+use mw_board::{Run, RunFault, simulate};
 use std::alloc::{AllocError as NoMemory, Global};
 use std::test::Fail;
 

@@ -1,4 +1,4 @@
-use super::simulate;
+use mw_board::simulate;
 use std::alloc::{AllocError as NoMemory, Global};
 use std::test::Fail;
 
