@@ -1,6 +1,6 @@
 use Rattle.std.proofs.Common.{◌/◌, ◌^◌, bit_and, ap, ◌∙◌}
 use Rattle.std.proofs.lemmas.Nat.{and_mask}
-use Rattle.mw_tables.proofs.operand.slot_of.Goals as goal
+use Rattle.mw_tables.proofs.operand.slot.Goals as goal
 
 pub returns : goal.returns
 returns c =

@@ -2,7 +2,7 @@ use Rattle.std.proofs.Common.{ℕ, ◌*◌, ◌%◌, ◌^◌, ◌<◌, ◌≤◌
 use Rattle.std.proofs.lemmas.Int.{ints}
 use Rattle.std.proofs.lemmas.Nat.{one_shl}
 use Rattle.std.proofs.Math.Pow.{pow_mono}
-use Rattle.mw_tables.proofs.operand.sign.Goals as goal
+use Rattle.mw_tables.proofs.operand.signed_of.Goals as goal
 
 fits : (number power : ℕ) → number < power → power ≤ 2 ^ 62 → FitsSigned w64 (to_z w64 number -ℤ to_z w64 power)
 fits number power below narrow = search (rules, arith, ints)
