@@ -1,6 +1,6 @@
 use Rattle.std.proofs.Common.{◌≡◌, take}
 use Rattle.mw_tables.specs.Layouts.{operands_in}
-use Rattle.mw_decode.proofs.decoder.operands.Given as goal
+use Rattle.mw_decode.proofs.decoder.operands_in.Given as goal
 
 -- what was read are the operands of the fields taken
 abbrev pub invariant-loop-field : goal.invariant-loop-field

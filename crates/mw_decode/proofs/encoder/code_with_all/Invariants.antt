@@ -1,6 +1,6 @@
 use Rattle.std.proofs.Common.{◌≡◌, drop, bit_or}
 use Rattle.mw_tables.specs.Layouts.{code_with_all}
-use Rattle.mw_decode.proofs.encoder.written.Given as goal
+use Rattle.mw_decode.proofs.encoder.code_with_all.Given as goal
 
 -- what was written and what is left are the whole
 abbrev pub invariant-loop-place : goal.invariant-loop-place

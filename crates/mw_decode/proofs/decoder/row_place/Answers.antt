@@ -6,7 +6,7 @@ use Rattle.mw_tables.specs.Rows.{table, row_count}
 use Rattle.mw_tables.specs.Matching.{MatchesAt, row_place}
 use Rattle.mw_tables.proofs.Places.{row_place-from_place, row_place-from_no_place, MatchesAt-below}
 use Rattle.mw_decode.specs.Groups.{LeadsTo}
-use Rattle.mw_decode.proofs.decoder.place_in.Goals as goal
+use Rattle.mw_decode.proofs.decoder.row_place.Goals as goal
 
 -- a test that is true says that the row matches
 matched : (test : Bool) (kind : PrefixKind) (word place : ℕ) → (IsTrue test ↔ MatchesAt table kind word place) → test ≡ true → MatchesAt table kind word place

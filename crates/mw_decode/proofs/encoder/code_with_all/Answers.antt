@@ -1,6 +1,6 @@
 use Rattle.std.proofs.Common.{rules, ◌≡◌, pos, ◌+◌, length, drop, get_or, bit_or, sym, ap, ◌∙◌, arith}
 use Rattle.mw_tables.specs.Layouts.{code_with, code_with_all}
-use Rattle.mw_decode.proofs.encoder.written.Goals as goal
+use Rattle.mw_decode.proofs.encoder.code_with_all.Goals as goal
 use Rattle.mw_decode.proofs.EncodeParts.{blank, code_with_all-next, code_with_all-end}
 
 pub loop-place-preserved : goal.loop-place-preserved
