@@ -3,7 +3,7 @@ use Rattle.std.specs.Int.{w64, w128}
 use Rattle.std.proofs.lemmas.Int.{to_z-of_z}
 use Rattle.mw_asm.specs.Values.{fits_field, if_fits}
 use Rattle.mw_asm.proofs.ConversionLemmas.{fits_field-fits, if_fits-held}
-use Rattle.mw_asm.proofs.value.held.Goals as goal
+use Rattle.mw_asm.proofs.value.if_fits.Goals as goal
 
 pub overflow_cast-result : goal.overflow_cast-result
 overflow_cast-result c = fits_field-fits c.args.field.now (to_z w128 (of_z w128 c.in-Some.operand)) c.requires (sym c.if-fits_field.ensures)

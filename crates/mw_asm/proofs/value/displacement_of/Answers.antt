@@ -2,7 +2,7 @@ use Rattle.std.proofs.Common.{◌≡◌, FitsSigned, ap, ◌∙◌, arith, rules
 use Rattle.std.specs.Prelude.{pos, ◌-ℤ◌}
 use Rattle.std.specs.Int.{w64, w128, cast_signed, cast_unsigned}
 use Rattle.std.proofs.lemmas.Int.{ints, to_z-of_z}
-use Rattle.mw_asm.proofs.value.displacement.Goals as goal
+use Rattle.mw_asm.proofs.value.displacement_of.Goals as goal
 
 pub returns : goal.returns
 returns c =
