@@ -1,4 +1,4 @@
-use crate::assemble;
+use mw_asm::assemble;
 use std::test::Fail;
 
 /// One statement for each mnemonic, behind one another from address 0 on.
