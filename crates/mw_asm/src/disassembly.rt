@@ -22,7 +22,7 @@ use std::alloc::{AllocError as NoMemory, Global};
 const BLOCK: usize = 64;
 
 /// The name of the row at a place of the table, without endings.
-fn name_of_row(place: u16) -> &'static str
+fn name_at(place: u16) -> &'static str
     ensures { result.now ≡ name_at place }
 {
     match rows().get(usize::from(place)) {
@@ -50,7 +50,7 @@ fn add_name(text: &mut Bytes, insn: &Insn) -> Result<(), NoMemory>
     ensures { OnOk result (text.new ≡ text.old
         ++ (spelled (name_at insn.now.row) insn.now.row insn.now.oe insn.now.lk insn.now.aa insn.now.rc).name) }
 {
-    text.add(name_of_row(insn.row).as_bytes())?;
+    text.add(name_at(insn.row).as_bytes())?;
     add_ending(text, insn.oe, b"o")?;
     add_ending(text, insn.lk, b"l")?;
     add_ending(text, insn.aa, b"a")?;
@@ -250,7 +250,7 @@ fn add_word(text: &mut Bytes, at: u64, word: u32, suffix: Option<u32>) -> Result
 }
 
 /// The byte of an image at an address, or 0 behind its end.
-fn byte_at(image: &[u8], at: usize) -> u8
+fn image_byte(image: &[u8], at: usize) -> u8
     ensures { result ≡ image_byte image.now at }
 {
     match image.get(at) {
@@ -260,26 +260,27 @@ fn byte_at(image: &[u8], at: usize) -> u8
 }
 
 /// The word of an image at an address, filled with zeros where the image ends.
-fn word_at(image: &[u8], at: usize) -> u32
+fn image_word(image: &[u8], at: usize) -> u32
     requires { at < length image.now }
     ensures { result ≡ image_word image.now at }
 {
-    u32::from(byte_at(image, at))
+    u32::from(image_byte(image, at))
         + 256
-            * (u32::from(byte_at(image, at + 1))
+            * (u32::from(image_byte(image, at + 1))
                 + 256
-                    * (u32::from(byte_at(image, at + 2)) + 256 * u32::from(byte_at(image, at + 3))))
+                    * (u32::from(image_byte(image, at + 2))
+                        + 256 * u32::from(image_byte(image, at + 3))))
 }
 
 /// The suffix of the word of an image at an address, if it is a prefix that has one: in the image, and in its
 /// block.
-fn suffix_at(image: &[u8], at: usize) -> Option<u32>
+fn suffix_in(image: &[u8], at: usize) -> Option<u32>
     requires { at < length image.now }
     ensures value { result ≡ suffix_in image.now at }
     ensures prefix { IfSome result (λ _. IsTrue (is_prefix (image_word image.now at))) }
 {
-    if is_prefix(word_at(image, at)) && at % BLOCK != BLOCK - 4 && at + 4 < image.len() {
-        Some(word_at(image, at + 4))
+    if is_prefix(image_word(image, at)) && at % BLOCK != BLOCK - 4 && at + 4 < image.len() {
+        Some(image_word(image, at + 4))
     } else {
         None
     }
@@ -292,7 +293,7 @@ fn add_line(text: &mut Bytes, image: &[u8], at: usize) -> Result<bool, NoMemory>
     ensures line { OnOk result (text.new ≡ text.old ++ entry_text (entry_at image.now at)) }
     ensures pair { IfOk result (λ pair. pair ≡ is_some (entry_at image.now at).suffix) }
 {
-    add_word(text, at as u64, word_at(image, at), suffix_at(image, at))
+    add_word(text, at as u64, image_word(image, at), suffix_in(image, at))
 }
 
 /// The lines of an image: one for each word or pair.

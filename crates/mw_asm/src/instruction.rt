@@ -10,7 +10,7 @@ ghost use Rattle.mw_asm.specs.Sizes.{IsWritten};
 ghost use Rattle.mw_asm.specs.Values.{code_bytes, fields_at, filled, insn_of, instruction_bytes, operand_by, operands_of, value_of, written_fields};
 
 use crate::labels::Labels;
-use crate::value::{converted, held, label_column, value_of};
+use crate::value::{converted, if_fits, label_column, value_of};
 use arrayvec::ArrayVec;
 use mw_bits::Bytes;
 use mw_decode::{Code, Insn, encode, is_illegal_form};
@@ -22,7 +22,7 @@ use mw_tables::{Field, fields_of_layout, layout_at};
 use std::alloc::AllocError as NoMemory;
 
 /// The operand that an expression stands for in a field, or its refusal: of its label, then of its range.
-fn operand_in(
+fn operand_by(
     labels: &Labels,
     at: u32,
     line: &[u8],
@@ -38,7 +38,7 @@ fn operand_in(
         ≡ operand_by expression kind field.now absolute at (value_of labels.now at line.now expression) }
 {
     match value_of(labels, at, line, expression) {
-        Some(value) => match held(field, converted(kind, absolute, at, value)) {
+        Some(value) => match if_fits(field, converted(kind, absolute, at, value)) {
             Some(operand) => Ok(operand),
             None => Err(Refusal {
                 column: expression.column,
@@ -53,7 +53,7 @@ fn operand_in(
 }
 
 /// The kinds of the operands among items.
-fn operand_kinds(items: &[Item]) -> ArrayVec<Kind, 6>
+fn kinds_of(items: &[Item]) -> ArrayVec<Kind, 6>
     requires { length (kinds_of items.now) ≤ 6 }
     ensures { result.items ≡ kinds_of items.now }
 {
@@ -115,7 +115,7 @@ fn written_operands(
     let mut operands = ArrayVec::new();
     for (place, expression) in expressions.iter().enumerate() {
         let field = written_field(pattern, fields, place);
-        let operand = operand_in(labels, at, line, absolute, *expression, kinds[place], field)?;
+        let operand = operand_by(labels, at, line, absolute, *expression, kinds[place], field)?;
         operands.push(operand);
     }
     Ok(operands)
@@ -153,7 +153,7 @@ fn filled(pattern: Pattern, written: ArrayVec<i64, 6>) -> ArrayVec<i64, 6>
 fn kinds_for(mnemonic: Mnemonic) -> ArrayVec<Kind, 6>
     ensures { result.items ≡ kinds_of (pattern_items mnemonic.pattern (shape_at mnemonic.row)) }
 {
-    operand_kinds(pattern_items(mnemonic.pattern, shape_of_row(mnemonic.row)))
+    kinds_of(pattern_items(mnemonic.pattern, shape_of_row(mnemonic.row)))
 }
 
 /// Where the operands of the row at a place stand.

@@ -32,7 +32,7 @@ impl<'a> Labels<'a> {
     }
 
     /// The address of a name, if it is a label.
-    pub(crate) fn address(&self, name: &[u8]) -> Option<u32>
+    pub(crate) fn address_of(&self, name: &[u8]) -> Option<u32>
         ensures { result ≡ address_of self.now name.now }
     {
         self.addresses.get(name).copied()

@@ -10,7 +10,7 @@ ghost use Rattle.mw_asm.specs.Passes.{IfBad, IsLabelled, IsPlaced, LeavesLabels,
 use crate::fault::AsmFault;
 use crate::image::add_statement;
 use crate::labels::Labels;
-use crate::value::{part, value_of};
+use crate::value::{part_of, value_of};
 use mw_bits::Bytes;
 use mw_syntax::{Expression, Label, LineFault, Refusal, Statement, Unit, What, parse_line};
 use mw_tables::{PrefixKind, row_at};
@@ -90,13 +90,7 @@ fn behind_bytes(at: u32, name: u32, size: u128) -> Result<u32, Refusal>
 
 /// The address behind `.org`, whose name stands at a column: it is known, it doesn't fall, and it lies in
 /// the image.
-fn behind_org(
-    labels: &Labels,
-    at: u32,
-    line: &[u8],
-    name: u32,
-    to: Expression,
-) -> Result<u32, Refusal>
+fn org_by(labels: &Labels, at: u32, line: &[u8], name: u32, to: Expression) -> Result<u32, Refusal>
     requires { IsExpression line.now to }
     ensures value { result ≡ org_by at name to (value_of labels.now at line.now to) }
     ensures inside { IfOk result (λ next. next ≤ image_limit) }
@@ -138,7 +132,7 @@ fn behind_statement(
 {
     match statement {
         Statement::Nothing => Ok(at),
-        Statement::Org { name, to } => behind_org(labels, at, line, *name, *to),
+        Statement::Org { name, to } => org_by(labels, at, line, *name, *to),
         Statement::Data { name, unit, values } => behind_bytes(
             at,
             *name,
@@ -163,8 +157,8 @@ fn add_label<'a>(
     let Some(label) = label else {
         return Ok(());
     };
-    let name = part(line, label.from, label.to);
-    if labels.address(name).is_some() {
+    let name = part_of(line, label.from, label.to);
+    if labels.address_of(name).is_some() {
         return Err(LineFault::Refused(Refusal {
             column: label.from + 1,
             what: What::Label,

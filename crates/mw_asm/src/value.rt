@@ -10,7 +10,7 @@ use mw_syntax::{Addend, Base, Expression, Kind};
 use mw_tables::{Field, is_in_field};
 
 /// The bytes of a line from a place to another.
-pub(crate) fn part<'a>(line: &'a [u8], from: u32, to: u32) -> &'a [u8]
+pub(crate) fn part_of<'a>(line: &'a [u8], from: u32, to: u32) -> &'a [u8]
     requires { IsPart line.now from to }
     ensures { result.now ≡ part_of line.now from to }
 {
@@ -26,7 +26,7 @@ fn base_value(labels: &Labels, at: u32, line: &[u8], base: Base) -> Option<i128>
     match base {
         Base::Number(number) => Some(i128::from(number)),
         Base::Negative(number) => Some(-i128::from(number)),
-        Base::Name { from, to } => match labels.address(part(line, from, to)) {
+        Base::Name { from, to } => match labels.address_of(part_of(line, from, to)) {
             Some(address) => Some(i128::from(address)),
             None => None,
         },
@@ -96,7 +96,7 @@ fn origin(absolute: bool, at: u32) -> u32
 }
 
 /// A target as a displacement, which wraps at 2^64: from the statement's address, or from 0 with AA.
-fn displacement(absolute: bool, at: u32, value: i128) -> i64
+fn displacement_of(absolute: bool, at: u32, value: i128) -> i64
     requires low { neg_ℤ (pos (2 ^ 63)) ≤ℤ value }
     requires high { value <ℤ pos (2 ^ 64) }
     ensures { result ≡ displacement_of absolute at value }
@@ -111,7 +111,7 @@ pub(crate) fn converted(kind: Kind, absolute: bool, at: u32, value: i128) -> Opt
     match kind {
         Kind::Target => {
             if -0x8000_0000_0000_0000 <= value && value < 0x1_0000_0000_0000_0000 {
-                Some(i128::from(displacement(absolute, at, value)))
+                Some(i128::from(displacement_of(absolute, at, value)))
             } else {
                 None
             }
@@ -137,7 +137,7 @@ fn fits_field(field: &Field, operand: i128) -> bool
 }
 
 /// An operand that the field can hold, or nothing.
-pub(crate) fn held(field: &Field, operand: Option<i128>) -> Option<i64>
+pub(crate) fn if_fits(field: &Field, operand: Option<i128>) -> Option<i64>
     requires { IsTrue (is_readable field.now) }
     ensures { result ≡ if_fits field.now operand }
 {

@@ -3,10 +3,9 @@ use Rattle.std.proofs.Common.{◌≡◌, ◌≢◌, ℕ, zero, suc, ◌+◌, ◌
 use Rattle.std.proofs.Math.Nat.{mod-add-mod, mod-eq_of_lt}
 use Rattle.std.proofs.lemmas.List.{append-nil, length-set, length-take, length-drop, length_push, get_or_default, get_or-drop, get_or-take, get_or-set_other, get_or-set_same, same_lists, set_at, take_at, at_drop_more, at_drop_all}
 use Rattle.std.proofs.lemmas.List.FromFn.{length-map-range_with_len, map-range_with_len_more, get_or-map-range_with_len}
-use Rattle.std.proofs.lemmas.Grind.{common_steps}
 use Rattle.std.proofs.lemmas.Bool.Decides.{nat_tests}
 use Rattle.byteorder.specs.Endian.{big_number, little_number, big_bytes, little_bytes}
-use Rattle.byteorder.specs.Numbers.{big_from-append, big_from-lt, big_number-reads_back, length-bytes_high_first, length-bytes_low_first, little_from-append, little_from-lt, little_number-reads_back}
+use Rattle.byteorder.specs.Numbers.{big_number-reads_back, length-bytes_high_first, length-bytes_low_first, little_number-reads_back}
 use Rattle.mw_bus.specs.Memory.{four_at, word_at, byte_at, byte_put, bytes_at, laid, number_of, bytes_of, padded}
 
 -- the address behind the next one, a step on from the next
@@ -63,10 +62,6 @@ bytes_at-append ram at m (suc n) =
 -- where RAM is, its byte
 pub byte_at_inside : (ram : List ℕ) (q : ℕ) → q < 16777216 → byte_at ram q ≡ slice_index ram q
 byte_at_inside ram q inside = grind (arith, nat_tests)
-
--- where RAM isn't, all ones
-pub byte_at_outside : (ram : List ℕ) (q : ℕ) → 16777216 ≤ q → byte_at ram q ≡ 255
-byte_at_outside ram q outside = grind (arith, nat_tests)
 
 -- a read inside RAM
 pub bytes_at_inside : (ram : List ℕ) (at n : ℕ) → length ram ≡ 16777216 → at + n ≤ 16777216 → bytes_at ram at n ≡ take n (drop at ram)
@@ -200,18 +195,6 @@ unfolding number_of bytes_of
 number_of-bytes_of true n x fits = ap (big_number n) (sym (append-nil (big_bytes n x))) ∙ big_number-reads_back n x [] fits
 number_of-bytes_of false n x fits = ap (little_number n) (sym (append-nil (little_bytes n x))) ∙ little_number-reads_back n x [] fits
 
--- it reads its own bytes alone
-pub number_of-append : (big : Bool) (n : ℕ) (xs ys : List ℕ) → n ≤ length xs → number_of big n (xs ++ ys) ≡ number_of big n xs
-unfolding number_of
-number_of-append true n xs ys enough = big_from-append n xs ys enough
-number_of-append false n xs ys enough = little_from-append n xs ys enough
-
--- it fits its bytes
-pub number_of-lt : (big : Bool) (n : ℕ) (xs : List ℕ) → ((i : ℕ) → slice_index xs i < 256) → number_of big n xs < 256 ^ n
-unfolding number_of
-number_of-lt true n xs bytes = big_from-lt 0 n xs bytes
-number_of-lt false n xs bytes = little_from-lt 0 n xs bytes
-
 -- the four bytes of a word that doesn't go round the end of the real address space
 four_at-bytes_at : (ram : List ℕ) (at : ℕ) → at + 3 < 2 ^ 60 → four_at ram at ≡ bytes_at ram at 4
 unfolding bytes_at
@@ -229,10 +212,6 @@ four_at-bytes_at ram at straight =
 pub word_at-number_of : (big : Bool) (ram : List ℕ) (at : ℕ) → at + 3 < 2 ^ 60 → word_at big ram at ≡ number_of big 4 (bytes_at ram at 4)
 unfolding word_at
 word_at-number_of big ram at straight = ap (number_of big 4) (four_at-bytes_at ram at straight)
-
--- a padded operand has 8 bytes
-pub length-padded : (xs : List ℕ) → length xs ≤ 8 → length (padded xs) ≡ 8
-length-padded xs short = grind (arith, common_steps)
 
 -- its front is the operand
 pub take-padded : (xs : List ℕ) (n : ℕ) → length xs ≡ n → take n (padded xs) ≡ xs

@@ -53,7 +53,7 @@ impl Ram {
     }
 
     /// The byte at a real address, all ones where RAM isn't.
-    fn byte(&self, at: u64) -> u8
+    fn byte_at(&self, at: u64) -> u8
         ensures { result ≡ byte_at self.now at }
     {
         if at < 16777216 {
@@ -71,10 +71,10 @@ impl Ram {
         ensures { result ≡ word_at false self.now at }
     {
         LittleEndian::read_u32(&[
-            self.byte(at),
-            self.byte(at + 1),
-            self.byte(at + 2),
-            self.byte(at + 3),
+            self.byte_at(at),
+            self.byte_at(at + 1),
+            self.byte_at(at + 2),
+            self.byte_at(at + 3),
         ])
     }
 
@@ -96,13 +96,13 @@ impl Ram {
     {
         let mut bytes = [0; 8];
         for i in 0..len {
-            bytes[i] = self.byte((at + i as u64) % REAL_SIZE);
+            bytes[i] = self.byte_at((at + i as u64) % REAL_SIZE);
         }
         bytes
     }
 
     /// Sets the byte at a real address, where RAM is.
-    fn put_byte(&mut self, at: u64, byte: u8)
+    fn byte_put(&mut self, at: u64, byte: u8)
         ensures { self.new ≡ byte_put self.old at byte }
     {
         if at < RAM_SIZE as u64 {
@@ -119,7 +119,7 @@ impl Ram {
     {
         let mut place = at;
         for byte in piece {
-            self.put_byte(place, *byte);
+            self.byte_put(place, *byte);
             place = (place + 1) % REAL_SIZE;
         }
     }

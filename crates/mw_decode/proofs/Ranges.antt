@@ -1,18 +1,14 @@
 -- What is known of an instruction of the table, for the crates that carry it out.
-use Rattle.std.proofs.Common.{◌≡◌, ℕ, ◌<◌, false, List, Some, None, Option, length, slice_get, ℤ, pos, IsSomeAnd, refl, sym, ap, ◌∙◌, subst, arith}
+use Rattle.std.proofs.Common.{◌≡◌, ℕ, ◌<◌, false, List, Some, None, Option, length, slice_get, IsSomeAnd, refl, sym, ap, ◌∙◌, subst, arith}
 use Rattle.std.specs.Option.{option_map_or}
-use Rattle.std.specs.Ordering.{int_eq}
-use Rattle.std.proofs.lemmas.Bool.{or_parts}
-use Rattle.std.proofs.lemmas.Bool.Decides.{Decides-int_eq, not_from_Decides}
 use Rattle.std.proofs.lemmas.Option.{slice_get_within}
 use Rattle.mw_tables.specs.declared.layout.Layout.{Layout}
 use Rattle.mw_tables.specs.Row.{TableRow}
 use Rattle.mw_tables.specs.Rows.{lines, table, layouts, row_count}
-use Rattle.mw_tables.specs.Layouts.{fields_of, shape_of, operand_at, HasOperands}
+use Rattle.mw_tables.specs.Layouts.{fields_of, shape_of, HasOperands}
 use Rattle.mw_tables.proofs.Places.{row-layout}
 use Rattle.mw_decode.specs.declared.insn.Insn.{Insn}
 use Rattle.mw_decode.specs.declared.rule.Rule.{Rule}
-use Rattle.mw_decode.specs.declared.rule.Rule.TheVariants.{LoadUpdate, StoreUpdate}
 use Rattle.mw_decode.specs.Rules.{row_rules, is_illegal}
 use Rattle.mw_decode.specs.Decode.{IsInsn, HasForms}
 
@@ -33,16 +29,6 @@ IsInsn-forms insn place row is at there =
 pub IsInsn-legal : (insn : Insn) (place : ℕ) (rule : Rule) → IsInsn insn → insn.row ≡ place → slice_get row_rules place ≡ Some rule → is_illegal rule insn.ops.items ≡ false
 IsInsn-legal insn place rule is at there =
     sym (ap (λ (o : Option Rule). option_map_or (λ r. is_illegal r insn.ops.items) o false) (ap (slice_get row_rules) at ∙ there)) ∙ is.legal
-
--- a load with update that is legal has an RA that is neither 0 nor RT
-pub LoadUpdate-legal : (place : ℕ) (ops : List ℤ) → is_illegal (LoadUpdate place) ops ≡ false → ¬ (operand_at ops place ≡ pos 0) × ¬ (operand_at ops place ≡ operand_at ops 0)
-LoadUpdate-legal place ops legal =
-    let both = or_parts (int_eq (operand_at ops place) (pos 0)) (int_eq (operand_at ops place) (operand_at ops 0)) legal in
-    (not_from_Decides _ (Decides-int_eq _ _) both.0, not_from_Decides _ (Decides-int_eq _ _) both.1)
-
--- a store with update that is legal has an RA that is not 0
-pub StoreUpdate-legal : (place : ℕ) (ops : List ℤ) → is_illegal (StoreUpdate place) ops ≡ false → ¬ (operand_at ops place ≡ pos 0)
-StoreUpdate-legal place ops legal = not_from_Decides _ (Decides-int_eq (operand_at ops place) (pos 0)) legal
 
 in_list : {X : Type 0} (o : Option X) (P : X → Type 0) (xs : List X) (i : ℕ) → slice_get xs i ≡ o → IsSomeAnd o P → i < length xs
 in_list None P xs i e h = absurd h

@@ -11,7 +11,7 @@ use crate::groups::leading_place;
 use crate::insn::{Decoded, Insn};
 use crate::rule::is_illegal_form;
 use crate::unavailable::{without_row, without_row_prefixed};
-use crate::word::opcode;
+use crate::word::opcode_of;
 use arrayvec::ArrayVec;
 use mw_prefix::{Wide, split};
 use mw_tables::{Field, PrefixKind, Row, fields_of_layout, layout_at, read_operand, row_at, rows};
@@ -20,7 +20,7 @@ use mw_tables::{Field, PrefixKind, Row, fields_of_layout, layout_at, read_operan
 pub fn is_prefix(word: u32) -> bool
     ensures { result ≡ is_prefix word }
 {
-    opcode(word) == 1
+    opcode_of(word) == 1
 }
 
 /// Whether the word, or the suffix behind this kind of prefix, has the row's fixed bits.
@@ -38,7 +38,7 @@ fn is_at(kind: PrefixKind, word: u32, place: usize) -> bool
 }
 
 /// The place in the table of the row that matches a word, or the suffix behind this kind of prefix.
-fn place_in(kind: PrefixKind, word: u32) -> Option<u16>
+fn row_place(kind: PrefixKind, word: u32) -> Option<u16>
     ensures value { result ≡ row_place kind word }
     ensures within { IfSome result (λ place. place < row_count) }
 {
@@ -53,20 +53,20 @@ fn place_in(kind: PrefixKind, word: u32) -> Option<u16>
 }
 
 /// The place in the table of the row of a prefix and its suffix.
-fn place_of_pair(prefix: u32, suffix: u32) -> Option<u16>
+fn place_behind(prefix: u32, suffix: u32) -> Option<u16>
     ensures value { result ≡ place_behind (split_of prefix suffix) suffix }
     ensures within { IfSome result (λ place. place < row_count) }
 {
     match split(prefix, suffix) {
-        Ok(Wide::Mls { .. }) => place_in(PrefixKind::Mls, suffix),
-        Ok(Wide::Eight { .. }) => place_in(PrefixKind::Eight, suffix),
-        Ok(Wide::Nop { .. }) => place_in(PrefixKind::Nop, suffix),
+        Ok(Wide::Mls { .. }) => row_place(PrefixKind::Mls, suffix),
+        Ok(Wide::Eight { .. }) => row_place(PrefixKind::Eight, suffix),
+        Ok(Wide::Nop { .. }) => row_place(PrefixKind::Nop, suffix),
         Err(_) => None,
     }
 }
 
 /// A bit of a word, or of a suffix, numbered from the left of its 32.
-fn bit(code: u64, at: u32) -> bool
+fn is_set(code: u64, at: u32) -> bool
     requires { at < 32 }
     ensures { result ≡ is_set code at }
 {
@@ -74,7 +74,7 @@ fn bit(code: u64, at: u32) -> bool
 }
 
 /// The operands that a code has in these fields.
-fn operands(code: u64, fields: &[Field]) -> ArrayVec<i64, 6>
+fn operands_in(code: u64, fields: &[Field]) -> ArrayVec<i64, 6>
     requires readable { IsTrue (list_all is_readable fields.now) }
     requires few { length fields.now ≤ 6 }
     ensures { result.items ≡ operands_in code fields.now }
@@ -87,11 +87,11 @@ fn operands(code: u64, fields: &[Field]) -> ArrayVec<i64, 6>
 }
 
 /// The instruction of the row at a place of the table, unless its operands are an illegal form.
-fn insn_of_row(code: u64, place: u16) -> Option<Insn>
+fn insn_at(code: u64, place: u16) -> Option<Insn>
     requires { place < row_count }
     ensures { result ≡ insn_at code (Some place) }
 {
-    let ops = operands(code, fields_of_layout(layout_at(place)));
+    let ops = operands_in(code, fields_of_layout(layout_at(place)));
     if is_illegal_form(place, ops.as_slice()) {
         return None;
     }
@@ -99,10 +99,10 @@ fn insn_of_row(code: u64, place: u16) -> Option<Insn>
     Some(Insn {
         row: place,
         ops,
-        oe: row.oe && bit(code, 21),
-        rc: row.rc && bit(code, 31),
-        aa: row.absolute && bit(code, 30),
-        lk: row.links && bit(code, 31),
+        oe: row.oe && is_set(code, 21),
+        rc: row.rc && is_set(code, 31),
+        aa: row.absolute && is_set(code, 30),
+        lk: row.links && is_set(code, 31),
     })
 }
 
@@ -111,10 +111,10 @@ fn insn_of_row(code: u64, place: u16) -> Option<Insn>
 fn decode_word(word: u32) -> Decoded
     ensures { result ≡ decode_of word None }
 {
-    let Some(place) = place_in(PrefixKind::Plain, word) else {
+    let Some(place) = row_place(PrefixKind::Plain, word) else {
         return without_row(word);
     };
-    match insn_of_row(u64::from(word), place) {
+    match insn_at(u64::from(word), place) {
         Some(insn) => Decoded::Insn(insn),
         None => without_row(word),
     }
@@ -125,11 +125,11 @@ fn decode_word(word: u32) -> Decoded
 fn decode_pair(prefix: u32, suffix: u32) -> Decoded
     ensures { result ≡ decode_of prefix (Some suffix) }
 {
-    let Some(place) = place_of_pair(prefix, suffix) else {
+    let Some(place) = place_behind(prefix, suffix) else {
         return without_row_prefixed(prefix, suffix);
     };
     let code = u64::from(prefix) * 0x1_0000_0000 + u64::from(suffix);
-    match insn_of_row(code, place) {
+    match insn_at(code, place) {
         Some(insn) => Decoded::Insn(insn),
         None => without_row_prefixed(prefix, suffix),
     }

@@ -13,7 +13,7 @@ use mw_tables::{
 };
 
 /// The bits that a prefix of this kind fixes, and 0 without one (Book I, prefixed instruction formats).
-fn prefix_bits(kind: PrefixKind) -> u32
+fn prefix_value(kind: PrefixKind) -> u32
     ensures { result ≡ prefix_value kind }
 {
     match kind {
@@ -25,33 +25,33 @@ fn prefix_bits(kind: PrefixKind) -> u32
 }
 
 /// The bits that a row fixes in a code.
-fn fixed_bits(row: &Row) -> u64
+fn fixed_value(row: &Row) -> u64
     ensures { result ≡ fixed_value (row_of row.now) }
 {
-    u64::from(prefix_bits(row.prefix)) * 0x1_0000_0000 + u64::from(row.value)
+    u64::from(prefix_value(row.prefix)) * 0x1_0000_0000 + u64::from(row.value)
 }
 
 /// A form as an operand: 1 where it is chosen.
-fn form_operand(chosen: bool) -> i64
+fn flag_operand(chosen: bool) -> i64
     ensures { result ≡ flag_operand chosen }
 {
     if chosen { 1 } else { 0 }
 }
 
 /// The forms OE, Rc, AA and LK of an instruction as operands.
-fn form_operands(insn: &Insn) -> [i64; 4]
+fn flag_operands(insn: &Insn) -> [i64; 4]
     ensures { result ≡ flag_operands insn.now }
 {
     [
-        form_operand(insn.oe),
-        form_operand(insn.rc),
-        form_operand(insn.aa),
-        form_operand(insn.lk),
+        flag_operand(insn.oe),
+        flag_operand(insn.rc),
+        flag_operand(insn.aa),
+        flag_operand(insn.lk),
     ]
 }
 
 /// A code that has the operands in the fields, one for one, and 0 elsewhere.
-fn written(fields: &[Field], operands: &[i64]) -> u64
+fn code_with_all(fields: &[Field], operands: &[i64]) -> u64
     requires readable { IsTrue (list_all is_readable fields.now) }
     requires each { length operands.now ≡ length fields.now }
     ensures { result ≡ code_with_all fields.now operands.now }
@@ -64,7 +64,7 @@ fn written(fields: &[Field], operands: &[i64]) -> u64
 }
 
 /// A code as a word, or as a prefix and a suffix.
-fn words(kind: PrefixKind, code: u64) -> Code
+fn words_of(kind: PrefixKind, code: u64) -> Code
     requires { code < 2 ^ bits_of_kind kind }
     ensures { result ≡ words_of kind code }
 {
@@ -92,7 +92,7 @@ pub fn encode(insn: &Insn) -> Code
     ensures reserved { HasNoReserved insn.now result }
 {
     let row = row_at(insn.row);
-    let operands = written(fields_of_layout(layout_at(insn.row)), insn.ops.as_slice());
-    let forms = written(&flags_of_row(row), &form_operands(insn));
-    words(row.prefix, fixed_bits(row) | (operands | forms))
+    let operands = code_with_all(fields_of_layout(layout_at(insn.row)), insn.ops.as_slice());
+    let forms = code_with_all(&flags_of_row(row), &flag_operands(insn));
+    words_of(row.prefix, fixed_value(row) | (operands | forms))
 }

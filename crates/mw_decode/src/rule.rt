@@ -254,7 +254,7 @@ static RULES: [Rule; 224] = [
 ];
 
 /// The rules of all rows.
-fn all_rules() -> &'static [Rule]
+fn row_rules() -> &'static [Rule]
     ensures value { result.now ≡ row_rules }
     ensures count { length result.now ≡ row_count }
 {
@@ -262,37 +262,37 @@ fn all_rules() -> &'static [Rule]
 }
 
 /// The operand at a place, or 0 where there is none.
-fn operand_or_zero(ops: &[i64], place: usize) -> i64
+fn operand_at(ops: &[i64], place: usize) -> i64
     ensures { result ≡ operand_at ops.now place }
 {
     if place < ops.len() { ops[place] } else { 0 }
 }
 
 /// Whether CTR counts: BO2, the third of the five bits of BO, is 0.
-fn counts_down(bo: i64) -> bool
+fn counts(bo: i64) -> bool
     ensures { result ≡ counts bo }
 {
     bo.cast_unsigned() / 4 % 2 == 0
 }
 
 /// Whether the rule makes these operands an illegal form.
-fn forbids(rule: Rule, ops: &[i64]) -> bool
+fn is_illegal(rule: Rule, ops: &[i64]) -> bool
     ensures { result ≡ is_illegal rule ops.now }
 {
     match rule {
         Rule::AlwaysLegal => false,
         Rule::LoadUpdate { ra } => {
-            let base = operand_or_zero(ops, ra);
-            base == 0 || base == operand_or_zero(ops, 0)
+            let base = operand_at(ops, ra);
+            base == 0 || base == operand_at(ops, 0)
         }
-        Rule::StoreUpdate { ra } => operand_or_zero(ops, ra) == 0,
-        Rule::CountBranch => counts_down(operand_or_zero(ops, 0)),
-        Rule::CarryKind => operand_or_zero(ops, 3) != 0,
+        Rule::StoreUpdate { ra } => operand_at(ops, ra) == 0,
+        Rule::CountBranch => counts(operand_at(ops, 0)),
+        Rule::CarryKind => operand_at(ops, 3) != 0,
         Rule::TimeBase => {
-            let number = operand_or_zero(ops, 1);
+            let number = operand_at(ops, 1);
             number != 268 && number != 269
         }
-        Rule::Relative { ra } => operand_or_zero(ops, 3) == 1 && operand_or_zero(ops, ra) != 0,
+        Rule::Relative { ra } => operand_at(ops, 3) == 1 && operand_at(ops, ra) != 0,
     }
 }
 
@@ -302,8 +302,8 @@ fn forbids(rule: Rule, ops: &[i64]) -> bool
 pub fn is_illegal_form(row: u16, ops: &[i64]) -> bool
     ensures { result ≡ is_illegal_form row ops.now }
 {
-    match all_rules().get(usize::from(row)) {
-        Some(rule) => forbids(*rule, ops),
+    match row_rules().get(usize::from(row)) {
+        Some(rule) => is_illegal(*rule, ops),
         None => false,
     }
 }

@@ -4,7 +4,7 @@ ghost use Rattle.mw_tables.specs.Layouts.{d, operand_in};
 ghost use Rattle.mw_decode.specs.Unavailable.{float_codes, float_opcodes, float_suffixes, indexed_string_codes, is_extended, is_float, is_in, is_vector, is_vsx, multiple_opcodes, opcode_of, string_codes, vector_codes, vsx_opcodes, without_row, without_row_prefixed};
 
 use crate::insn::{Decoded, Facility};
-use crate::word::{extended, opcode, ra, rb};
+use crate::word::{extended_of, opcode_of, ra_of, rb_of};
 use mw_prefix::{Wide, split};
 use mw_tables::{Layout, fields_of_layout, read_operand};
 
@@ -81,42 +81,42 @@ fn is_string_code(code: u64) -> bool
 fn is_float(word: u32) -> bool
     ensures { result ≡ is_float word }
 {
-    is_float_opcode(opcode(word)) || opcode(word) == 31 && is_float_code(extended(word))
+    is_float_opcode(opcode_of(word)) || opcode_of(word) == 31 && is_float_code(extended_of(word))
 }
 
 /// A word of the vector facility; those of opcode 4 that have a row aren't asked.
 fn is_vector(word: u32) -> bool
     ensures { result ≡ is_vector word }
 {
-    opcode(word) == 4 || opcode(word) == 31 && is_vector_code(extended(word))
+    opcode_of(word) == 4 || opcode_of(word) == 31 && is_vector_code(extended_of(word))
 }
 
 /// A word of the vector-scalar facility.
 fn is_vsx(word: u32) -> bool
     ensures { result ≡ is_vsx word }
 {
-    is_vsx_opcode(opcode(word))
+    is_vsx_opcode(opcode_of(word))
 }
 
 /// Load and store multiple, which have a displacement.
 fn is_multiple(word: u32) -> bool
     ensures { result ≡ is_in multiple_opcodes (opcode_of word) }
 {
-    is_multiple_opcode(opcode(word))
+    is_multiple_opcode(opcode_of(word))
 }
 
 /// A move of a string at RA|0 and RB.
 fn is_indexed_string(word: u32) -> bool
     ensures { result ≡ is_extended indexed_string_codes word }
 {
-    opcode(word) == 31 && is_indexed_string_code(extended(word))
+    opcode_of(word) == 31 && is_indexed_string_code(extended_of(word))
 }
 
 /// A move of a string at RA|0.
 fn is_string(word: u32) -> bool
     ensures { result ≡ is_extended string_codes word }
 {
-    opcode(word) == 31 && is_string_code(extended(word))
+    opcode_of(word) == 31 && is_string_code(extended_of(word))
 }
 
 /// What a word is that has no row, or an illegal form of one: of a facility that isn't there, an access
@@ -132,19 +132,19 @@ pub fn without_row(word: u32) -> Decoded
         Decoded::Unavailable(Facility::Vsx)
     } else if is_multiple(word) {
         Decoded::Alignment {
-            ra: ra(word),
+            ra: ra_of(word),
             rb: None,
             disp: displacement(word),
         }
     } else if is_indexed_string(word) {
         Decoded::Alignment {
-            ra: ra(word),
-            rb: Some(rb(word)),
+            ra: ra_of(word),
+            rb: Some(rb_of(word)),
             disp: 0,
         }
     } else if is_string(word) {
         Decoded::Alignment {
-            ra: ra(word),
+            ra: ra_of(word),
             rb: None,
             disp: 0,
         }
@@ -154,7 +154,7 @@ pub fn without_row(word: u32) -> Decoded
 }
 
 /// Whether a prefix is of type 2.
-fn is_mls_prefix(prefix: u32, suffix: u32) -> bool
+fn is_mls(prefix: u32, suffix: u32) -> bool
     ensures { result ≡ is_mls prefix }
 {
     matches!(split(prefix, suffix), Ok(Wide::Mls { .. }))
@@ -164,7 +164,7 @@ fn is_mls_prefix(prefix: u32, suffix: u32) -> bool
 pub fn without_row_prefixed(prefix: u32, suffix: u32) -> Decoded
     ensures { result ≡ without_row_prefixed prefix suffix }
 {
-    if is_mls_prefix(prefix, suffix) && is_float_suffix(opcode(suffix)) {
+    if is_mls(prefix, suffix) && is_float_suffix(opcode_of(suffix)) {
         Decoded::Unavailable(Facility::Fp)
     } else {
         Decoded::Illegal

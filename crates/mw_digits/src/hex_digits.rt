@@ -8,7 +8,7 @@ use std::alloc::AllocError as NoMemory;
 const MOST_DIGITS: usize = 16;
 
 /// The hexadecimal digit of a number below 16, in lower case.
-fn digit_of(value: u8) -> u8
+fn hex_digit(value: u8) -> u8
     requires { value < 16 }
     ensures { result ≡ hex_digit value }
 {
@@ -26,7 +26,7 @@ pub fn write_hex(digits: &mut [u8], number: u64)
 {
     let mut rest = number;
     for place in (0..digits.len()).rev() {
-        digits[place] = digit_of((rest % 16) as u8);
+        digits[place] = hex_digit((rest % 16) as u8);
         rest /= 16;
     }
 }

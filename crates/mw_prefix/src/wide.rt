@@ -43,14 +43,14 @@ const EIGHT: u32 = 0b000001_00_0;
 const NOP: u32 = 0x0700_0000;
 
 /// R of a prefix, bit 11.
-fn pcrel(prefix: u32) -> bool
+fn pcrel_of(prefix: u32) -> bool
     ensures { result ≡ pcrel_of prefix }
 {
     prefix / (1 << 20) % 2 == 1
 }
 
 /// The displacement of 34 bits of two words.
-fn disp(prefix: u32, suffix: u32) -> u64
+fn disp_of(prefix: u32, suffix: u32) -> u64
     ensures { result ≡ disp_of prefix suffix }
 {
     u64::from(prefix % (1 << 18)) * (1 << 16) + u64::from(suffix % (1 << 16))
@@ -65,8 +65,8 @@ pub fn split(prefix: u32, suffix: u32) -> Result<Wide, NotWide>
     ensures back { IfOk result (λ wide. IsTrue (is_unreserved prefix) → prefix_of wide ≡ prefix) }
 {
     let opening = prefix / (1 << 23);
-    let pcrel = pcrel(prefix);
-    let disp = disp(prefix, suffix);
+    let pcrel = pcrel_of(prefix);
+    let disp = disp_of(prefix, suffix);
     if opening == MLS {
         Ok(Wide::Mls {
             pcrel,
@@ -87,7 +87,7 @@ pub fn split(prefix: u32, suffix: u32) -> Result<Wide, NotWide>
 }
 
 /// A prefix with these bits 0 to 8, its reserved bits 0.
-fn prefix_word(opening: u32, pcrel: bool, disp: u64) -> u32
+fn prefix_with(opening: u32, pcrel: bool, disp: u64) -> u32
     requires opening { opening < 2 ^ 9 }
     requires disp { disp < 2 ^ 34 }
     ensures { result ≡ prefix_with opening pcrel disp }
@@ -109,12 +109,12 @@ pub fn join(wide: &Wide) -> (u32, u32)
             pcrel,
             disp,
             suffix,
-        } => (prefix_word(MLS, *pcrel, *disp), *suffix),
+        } => (prefix_with(MLS, *pcrel, *disp), *suffix),
         Wide::Eight {
             pcrel,
             disp,
             suffix,
-        } => (prefix_word(EIGHT, *pcrel, *disp), *suffix),
+        } => (prefix_with(EIGHT, *pcrel, *disp), *suffix),
         Wide::Nop { suffix } => (NOP, *suffix),
     }
 }

@@ -3,7 +3,7 @@ ghost use Rattle.mw_uart.specs.Registers.{padded};
 ghost use Rattle.mw_soc.specs.Devices.{cycle_of, dec_of, dec_stands, devices_at, start_devices, with_dec};
 ghost use Rattle.mw_soc.specs.Map.{after_device_load, after_device_store, device_loaded, is_system, is_uart};
 
-use crate::system;
+use crate::system::system_loaded;
 use mw_uart::Uart;
 use std::alloc::{AllocError as NoMemory, Global};
 use std::marker::Model;
@@ -32,14 +32,14 @@ impl Model for Devices {
 }
 
 /// The UART stands at a real address.
-fn meets_uart(at: u64) -> bool
+fn is_uart(at: u64) -> bool
     ensures { result ≡ is_uart at }
 {
     0xC000_2000 <= at && at < 0xC000_3000
 }
 
 /// The system controller stands there.
-fn meets_system(at: u64) -> bool
+fn is_system(at: u64) -> bool
     ensures { result ≡ is_system at }
 {
     0xC000_0000 <= at && at < 0xC000_1000
@@ -87,10 +87,10 @@ impl Devices {
         ensures value { result ≡ device_loaded self.old.devices at width }
         ensures after { self.new ≡ record self.old { devices = after_device_load self.old.devices at } }
     {
-        if meets_uart(at) {
+        if is_uart(at) {
             self.uart.load((at - 0xC000_2000) as u32, width)
-        } else if meets_system(at) {
-            system::load(at - 0xC000_0000, width)
+        } else if is_system(at) {
+            system_loaded(at - 0xC000_0000, width)
         } else {
             ones(width)
         }
@@ -104,7 +104,7 @@ impl Devices {
         requires one_slot { at % 8 + length bytes.now ≤ 8 }
         ensures { self.new ≡ record self.old { devices = after_device_store self.old.devices at bytes.now } }
     {
-        if meets_uart(at) {
+        if is_uart(at) {
             self.uart.store((at - 0xC000_2000) as u32, bytes);
         }
     }

@@ -2,7 +2,7 @@ ghost use Rattle.std.specs.Prelude.{◌≡◌};
 ghost use Rattle.mw_soc.specs.Map.{system_number, system_loaded};
 
 /// The doubleword of the system controller at an offset, or 0 where it has none.
-fn number(offset: u64) -> u64
+fn system_number(offset: u64) -> u64
     ensures { result ≡ system_number offset }
 {
     match offset {
@@ -16,11 +16,11 @@ fn number(offset: u64) -> u64
 
 /// What a load of so many bytes at an offset of the system controller gives, with zeros behind it.
 #[tactic(auto, unfolding(crate::specs::Map::system_loaded))]
-pub fn load(offset: u64, width: u8) -> [u8; 8]
+pub fn system_loaded(offset: u64, width: u8) -> [u8; 8]
     ensures { result ≡ system_loaded offset width }
 {
     if width == 8 {
-        number(offset).to_le_bytes()
+        system_number(offset).to_le_bytes()
     } else {
         [0; 8]
     }

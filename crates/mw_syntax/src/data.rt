@@ -5,8 +5,8 @@ ghost use Rattle.mw_syntax.specs.Lines.{unit_of, values_at};
 ghost use Rattle.mw_syntax.specs.Faults.{IfPlace};
 
 use crate::item::Item;
-use crate::operands::has_mark;
-use crate::reading::read_expression;
+use crate::operands::is_mark;
+use crate::reading::expression_at;
 use crate::statement::Unit;
 use crate::values::Values;
 use mw_text::Token;
@@ -68,7 +68,7 @@ pub(crate) fn read_values(
     let mut values = Values::new(alloc);
     let mut place = start;
     for _ in 0..tokens.len() {
-        let read = match read_expression(line, tokens, place) {
+        let read = match expression_at(line, tokens, place) {
             Ok(read) => read,
             Err(place) => return Err(ValuesFault::Refused { place }),
         };
@@ -76,7 +76,7 @@ pub(crate) fn read_values(
         if read.next == tokens.len() {
             return Ok(values);
         }
-        if !has_mark(Item::Comma, tokens, read.next) {
+        if !is_mark(Item::Comma, tokens, read.next) {
             return Err(ValuesFault::Refused { place: read.next });
         }
         place = read.next + 1;

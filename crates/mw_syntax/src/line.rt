@@ -14,7 +14,7 @@ use crate::fault::{LineFault, Refusal, What};
 use crate::item::pattern_items;
 use crate::mnemonic::Mnemonic;
 use crate::operands::{read_operands, text_of};
-use crate::reading::{column_at, kind_at, read_expression};
+use crate::reading::{column_at, expression_at, kind_at};
 use crate::spelling::find_mnemonic;
 use crate::statement::{Label, Line, Statement, Unit};
 use mw_tables::{Shape, rows};
@@ -40,7 +40,7 @@ fn read_only(line: &[u8], tokens: &[Token], place: usize) -> Result<Expression, 
     requires inside { place ≤ length tokens.now }
     ensures { result ≡ only tokens.now (expression_at line.now tokens.now place) }
 {
-    let read = read_expression(line, tokens, place)?;
+    let read = expression_at(line, tokens, place)?;
     if read.next == tokens.len() {
         Ok(read.expression)
     } else {
@@ -181,7 +181,7 @@ fn read_statement(
 }
 
 /// The label that a line begins with.
-fn read_label(tokens: &[Token]) -> Option<Label>
+fn label_of(tokens: &[Token]) -> Option<Label>
     ensures value { result ≡ label_of tokens.now }
     ensures inside { OnSome result (2 ≤ length tokens.now) }
 {
@@ -195,7 +195,7 @@ fn read_label(tokens: &[Token]) -> Option<Label>
 }
 
 /// The place of the statement behind a label.
-fn place_behind(label: Option<Label>) -> usize
+fn statement_place(label: Option<Label>) -> usize
     ensures { result ≡ statement_place label }
 {
     match label {
@@ -210,8 +210,8 @@ fn parse_tokens(alloc: Global, line: &[u8], tokens: &[Token]) -> Result<Line, Li
     requires within { All (IsSpan (length line.now)) tokens.now }
     ensures { IsReadAs result (line_by line.now tokens.now) }
 {
-    let label = read_label(tokens);
-    match read_statement(alloc, line, tokens, place_behind(label)) {
+    let label = label_of(tokens);
+    match read_statement(alloc, line, tokens, statement_place(label)) {
         Ok(statement) => Ok(Line { label, statement }),
         Err(fault) => Err(fault),
     }

@@ -6,7 +6,7 @@ ghost use Rattle.mw_syntax.specs.Items.{kinds_of, register_of, text_of, register
 
 use crate::expression::{Addend, Base, Expression, Read};
 use crate::item::{Item, Kind};
-use crate::reading::{column_at, kind_at, read_expression};
+use crate::reading::{column_at, expression_at, kind_at};
 use arrayvec::ArrayVec;
 use mw_text::{Token, TokenKind};
 
@@ -38,7 +38,7 @@ pub(crate) fn text_of<'a>(line: &'a [u8], token: &Token) -> &'a [u8]
 }
 
 /// The register that the token at a place names.
-fn register_at(line: &[u8], tokens: &[Token], place: usize) -> Option<u64>
+fn register_in(line: &[u8], tokens: &[Token], place: usize) -> Option<u64>
     requires { All (IsSpan (length line.now)) tokens.now }
     ensures { result ≡ register_in line.now (slice_get tokens.now place) }
 {
@@ -59,7 +59,7 @@ fn read_register(line: &[u8], tokens: &[Token], place: usize) -> Result<Read, us
     ensures value { result ≡ operand_at Register line.now tokens.now place }
     ensures next { IfOk result (λ read. read.next ≤ length tokens.now) }
 {
-    match register_at(line, tokens, place) {
+    match register_in(line, tokens, place) {
         Some(number) => Ok(Read {
             expression: Expression {
                 column: column_at(line, tokens, place),
@@ -68,12 +68,12 @@ fn read_register(line: &[u8], tokens: &[Token], place: usize) -> Result<Read, us
             },
             next: place + 1,
         }),
-        None => read_expression(line, tokens, place),
+        None => expression_at(line, tokens, place),
     }
 }
 
 /// An operand of a kind at a place, and the place behind it.
-fn read_operand(kind: Kind, line: &[u8], tokens: &[Token], place: usize) -> Result<Read, usize>
+fn operand_at(kind: Kind, line: &[u8], tokens: &[Token], place: usize) -> Result<Read, usize>
     requires short { length line.now < 2 ^ 32 - 1 }
     requires within { All (IsSpan (length line.now)) tokens.now }
     requires inside { place ≤ length tokens.now }
@@ -82,12 +82,12 @@ fn read_operand(kind: Kind, line: &[u8], tokens: &[Token], place: usize) -> Resu
 {
     match kind {
         Kind::Register => read_register(line, tokens, place),
-        Kind::Value | Kind::Target | Kind::Upper => { read_expression(line, tokens, place) }
+        Kind::Value | Kind::Target | Kind::Upper => { expression_at(line, tokens, place) }
     }
 }
 
 /// A mark stands at a place.
-pub(crate) fn has_mark(mark: Item, tokens: &[Token], place: usize) -> bool
+pub(crate) fn is_mark(mark: Item, tokens: &[Token], place: usize) -> bool
     ensures value { result ≡ is_mark mark (kind_at tokens.now place) }
     ensures inside { IsTrue result → place < length tokens.now }
 {
@@ -123,12 +123,12 @@ pub(crate) fn read_operands(
     for item in items {
         match item {
             Item::Operand(kind) => {
-                let read = read_operand(*kind, line, tokens, place)?;
+                let read = operand_at(*kind, line, tokens, place)?;
                 operands.push(read.expression);
                 place = read.next;
             }
             Item::Comma | Item::Open | Item::Close => {
-                if !has_mark(*item, tokens, place) {
+                if !is_mark(*item, tokens, place) {
                     return Err(place);
                 }
                 place += 1;

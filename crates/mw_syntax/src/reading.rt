@@ -70,7 +70,7 @@ fn behind_base(tokens: &[Token], column: u32, base: Base, place: usize) -> Resul
 
 /// The expression at a place and the place behind it, or the place of the token that can't stand there.
 #[tactic(auto, unfolding(crate::specs::Expressions::expression_at))]
-pub(crate) fn read_expression(line: &[u8], tokens: &[Token], place: usize) -> Result<Read, usize>
+pub(crate) fn expression_at(line: &[u8], tokens: &[Token], place: usize) -> Result<Read, usize>
     requires short { length line.now < 2 ^ 32 - 1 }
     requires within { All (IsSpan (length line.now)) tokens.now }
     requires inside { place ≤ length tokens.now }

@@ -127,10 +127,6 @@ gathered-code_with f z used apart =
     ∙ ap (λ k. bits_from f z % 2 ^ k) (total_width f)
     ∙ mod-eq_of_lt (bits_from-lt f z)
 
--- what is written to a field is read there
-pub operand_in-code_with : (f : Field) (z : ℤ) (used : ℕ) → is_readable f ≡ true → pieces_apart used (pieces_of f) ≡ true → InRange f z → operand_in (code_with f z) f ≡ z
-operand_in-code_with f z used test apart within = ap (operand_from f) (gathered-code_with f z used apart) ∙ InRange-bits f z test within
-
 -- bits that are used stay used
 pub within-with_fields : (used : ℕ) (fs : List Field) → Within used (with_fields used fs)
 within-with_fields used [] = and_self used

@@ -1,15 +1,12 @@
 -- Operands in the code of a row: what is written is read, of the definitions alone.
-use Rattle.std.proofs.Common.{◌≡◌, ℕ, zero, suc, ◌+◌, ◌*◌, ◌/◌, ◌%◌, ◌^◌, ◌<◌, ◌≤◌, Bool, true, false, List, [], ◌∷◌, Some, ℤ, bit_and, bit_or, slice_get, refl, sym, ap, subst, ◌∙◌, arith, lit≤}
+use Rattle.std.proofs.Common.{◌≡◌, ℕ, zero, suc, ◌+◌, ◌*◌, ◌/◌, ◌%◌, ◌^◌, ◌<◌, ◌≤◌, true, List, [], ◌∷◌, Some, ℤ, bit_and, bit_or, slice_get, refl, sym, ap, subst, ◌∙◌, arith}
 use Rattle.std.specs.Int.Bits.{or_zero_r}
 use Rattle.std.specs.List.{list_all}
 use Rattle.std.proofs.lemmas.Nat.{and_le_r, and_shr, and_mod, and_block, mod_low, shr_high}
-use Rattle.std.proofs.lemmas.Bool.{and_parts, and_from, ltb-true, eqb-true}
-use Rattle.mw_tables.specs.declared.row.PrefixKind.{PrefixKind}
-use Rattle.mw_tables.specs.declared.row.PrefixKind.TheVariants.{Plain, Mls, Eight, Nop}
-use Rattle.mw_tables.specs.declared.layout.Field.{Field}
+use Rattle.std.proofs.lemmas.Bool.{and_parts, ltb-true, eqb-true}
 use Rattle.mw_tables.specs.declared.layout.Layout.{Layout}
 use Rattle.mw_tables.specs.Row.{TableRow, prefix_mask, prefix_value}
-use Rattle.mw_tables.specs.Layouts.{flag, flags_of, all_fields, is_readable, operands_in, code_with_all, HasOperands}
+use Rattle.mw_tables.specs.Layouts.{all_fields, is_readable, operands_in, code_with_all, HasOperands}
 use Rattle.mw_tables.specs.Rows.{lines, table, layouts}
 use Rattle.mw_tables.specs.Sound.{fields_apart, fixed_mask, fixed_value, used_bits, code_of, bits_of_kind, is_sound, all_sound}
 use Rattle.mw_tables.proofs.PieceLaws.{Within, and-or, or-within, within-trans}
@@ -79,23 +76,6 @@ pub code_of-lt : (row : TableRow) (layout : Layout) (zs : List ℤ) → is_sound
 code_of-lt row layout zs test =
     within-lt (code_of row layout zs) (used_bits row layout) (2 ^ bits_of_kind row.prefix) (code_of-used row layout zs test) (is_sound-parts row layout test).room
 
-kind_limit : (kind : PrefixKind) → 2 ^ bits_of_kind kind ≤ 2 ^ 64
-kind_limit Plain = lit≤ tt
-kind_limit Mls = lit≤ tt
-kind_limit Eight = lit≤ tt
-kind_limit Nop = lit≤ tt
-
--- at most 64 bits
-pub code_of-lt_code : (row : TableRow) (layout : Layout) (zs : List ℤ) → is_sound row layout ≡ true → code_of row layout zs < 2 ^ 64
-code_of-lt_code row layout zs test =
-    let below = code_of-lt row layout zs test in
-    let most = kind_limit row.prefix in
-    omega (arith, below, most)
-
--- a word's are 32
-pub code_of-lt_word : (row : TableRow) (layout : Layout) (zs : List ℤ) → is_sound row layout ≡ true → row.prefix ≡ Plain → code_of row layout zs < 2 ^ 32
-code_of-lt_word row layout zs test plain = subst (λ kind. code_of row layout zs < 2 ^ bits_of_kind kind) plain (code_of-lt row layout zs test)
-
 -- the suffix of a row's code, or the word, has the row's bits
 pub code_of-suffix : (row : TableRow) (layout : Layout) (zs : List ℤ) → is_sound row layout ≡ true → bit_and (code_of row layout zs % 2 ^ 32) row.mask ≡ row.value
 code_of-suffix row layout zs test =
@@ -142,11 +122,3 @@ at_place (x ∷ rows) (k ∷ kinds) (suc place) row layout test r l = at_place r
 -- each row of the table is sound with its layout
 pub row-sound : (place : ℕ) (row : TableRow) (layout : Layout) → slice_get table place ≡ Some row → slice_get layouts place ≡ Some layout → is_sound row layout ≡ true
 row-sound place row layout r l = at_place table layouts place row layout table-sound r l
-
-flag-readable : (exists : Bool) (f : Field) → is_readable f ≡ true → is_readable (flag exists f) ≡ true
-flag-readable true f test = test
-flag-readable false f test = refl
-
--- the forms of a row are readable
-pub flags_of-readable : (row : TableRow) → list_all is_readable (flags_of row) ≡ true
-flags_of-readable row = and_from _ _ (flag-readable row.oe _ refl) (and_from _ _ (flag-readable row.rc _ refl) (and_from _ _ (flag-readable row.absolute _ refl) (and_from _ _ (flag-readable row.links _ refl) refl)))

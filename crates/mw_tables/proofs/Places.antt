@@ -1,6 +1,6 @@
 -- The place of the row that matches a word, or has a name: no word matches two rows of one kind of prefix, and no two rows have one name.
 use Rattle.std.proofs.Common.{◌≡◌, ℕ, zero, suc, ◌+◌, ◌*◌, ◌<◌, length, slice_get, subst, Bool, true, false, not, ◌&&◌, cond, List, [], ◌∷◌, Option, Some, None, refl, sym, ap, ◌∙◌, arith, add-zero, bit_and}
-use Rattle.std.specs.Prelude.{◌==◌, IfSome, IfNone, IsSomeAnd, IsTrue, option_map}
+use Rattle.std.specs.Prelude.{◌==◌, IsSomeAnd, IsTrue, option_map}
 use Rattle.std.specs.List.{position_from}
 use Rattle.std.proofs.lemmas.Nat.{and_assoc, and_comm}
 use Rattle.std.proofs.lemmas.Bool.{eqb-true, eq-eqb, and_parts, not-true, both_ways, false_from_ne_true, cond-true, cond-false}
@@ -207,16 +207,3 @@ pub IsNamedAt-below : (name : List ℕ) (place : ℕ) → IsNamedAt table name p
 IsNamedAt-below name place there =
     let within : place < length table = is_at (slice_get table place) _ there place table refl in
     omega (arith, table_count)
-
--- a row of a name stands at its place
-pub IsNamedAt-row : (place : ℕ) (row : TableRow) → slice_get table place ≡ Some row → IsNamedAt table row.name place
-IsNamedAt-row place row there = subst (λ o. IsSomeAnd o (λ r. r.name ≡ row.name)) (sym there) refl
-
--- at a place where a row is, it is the row that has the name
-pub row-IsNamedAt : (name : List ℕ) (place : ℕ) (row : TableRow) → slice_get table place ≡ Some row → IsNamedAt table name place → row.name ≡ name
-row-IsNamedAt name place row there found = subst (λ o. IsSomeAnd o (λ r. r.name ≡ name)) there found
-
--- what says where a name is, or that it is nowhere, says the place of a row that has it
-pub place-from_name : (name : List ℕ) (place : ℕ) (found : Option ℕ) → IfSome found (IsNamedAt table name) → IfNone found ((k : ℕ) → IsNamedAt table name k → ⊥) → IsNamedAt table name place → found ≡ Some place
-place-from_name name place None some none there = absurd (none place there)
-place-from_name name place (Some k) some none there = ap Some (table-AreNamed name k place some there)

@@ -26,10 +26,6 @@ MatchesAt rows kind word place = IsSomeAnd (slice_get rows place) (λ row. IsTru
 abbrev pub AreApart : List TableRow → Type 0
 AreApart rows = (kind : PrefixKind) (word a b : ℕ) → MatchesAt rows kind word a → MatchesAt rows kind word b → a ≡ b
 
--- the names of rows, in order
-abbrev pub names_of : List TableRow → List (List ℕ)
-names_of rows = map (λ (row : TableRow). row.name) rows
-
 -- the row at a place has the name
 abbrev pub IsNamedAt : List TableRow → List ℕ → ℕ → Type 0
 IsNamedAt rows name place = IsSomeAnd (slice_get rows place) (λ row. row.name ≡ name)

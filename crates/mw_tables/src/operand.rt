@@ -12,7 +12,7 @@ fn ones(width: u32) -> u64
 }
 
 /// The number in a piece of a code.
-fn slot_of(code: u64, piece: Piece) -> u64
+fn slot(code: u64, piece: Piece) -> u64
     requires { IsTrue (is_within piece) }
     ensures { result ≡ slot code piece }
 {
@@ -28,7 +28,7 @@ fn placed(number: u64, piece: Piece) -> u64
 }
 
 /// How many bits a field has.
-fn width_of_field(field: &Field) -> u32
+fn width_of(field: &Field) -> u32
     requires { IsTrue (is_readable field.now) }
     ensures { result ≡ width_of field.now }
 {
@@ -36,19 +36,19 @@ fn width_of_field(field: &Field) -> u32
 }
 
 /// The number in the pieces of a field.
-fn gather(code: u64, field: &Field) -> u64
+fn gathered(code: u64, field: &Field) -> u64
     requires { IsTrue (is_readable field.now) }
     ensures value { result ≡ gathered code (pieces_of field.now) }
     ensures bound { result < 2 ^ width_of field.now }
 {
-    let low = slot_of(code, field.low);
-    let middle = slot_of(code, field.middle);
-    let high = slot_of(code, field.high);
+    let low = slot(code, field.low);
+    let middle = slot(code, field.middle);
+    let high = slot(code, field.high);
     low | (middle | high << field.middle.width) << field.low.width
 }
 
 /// A code with a number in the pieces of a field, and 0 elsewhere.
-fn scatter(number: u64, field: &Field) -> u64
+fn scattered(number: u64, field: &Field) -> u64
     requires { IsTrue (is_readable field.now) }
     ensures { result ≡ scattered number (pieces_of field.now) }
 {
@@ -61,7 +61,7 @@ fn scatter(number: u64, field: &Field) -> u64
 }
 
 /// A number of `width` bits, read as a signed one.
-fn sign(number: u64, width: u32) -> i64
+fn signed_of(number: u64, width: u32) -> i64
     requires narrow { width < 63 }
     requires fits { number < 2 ^ width }
     ensures { result ≡ signed_of width number }
@@ -74,26 +74,26 @@ fn sign(number: u64, width: u32) -> i64
 }
 
 /// The operand that the bits of a field stand for.
-fn operand_of_bits(bits: u64, field: &Field) -> i64
+fn operand_from(bits: u64, field: &Field) -> i64
     requires readable { IsTrue (is_readable field.now) }
     requires fits { bits < 2 ^ width_of field.now }
     ensures { result ≡ operand_from field.now bits }
 {
     let number = bits << field.shift;
     if field.signed {
-        sign(number, width_of_field(field) + field.shift)
+        signed_of(number, width_of(field) + field.shift)
     } else {
         number as i64
     }
 }
 
 /// The bits of a field that stand for an operand; of one that is out of range, its low bits.
-fn bits_of_operand(operand: i64, field: &Field) -> u64
+fn bits_from(operand: i64, field: &Field) -> u64
     requires { IsTrue (is_readable field.now) }
     ensures value { result ≡ bits_from field.now operand }
     ensures bound { result < 2 ^ width_of field.now }
 {
-    (operand.cast_unsigned() >> field.shift) & ones(width_of_field(field))
+    (operand.cast_unsigned() >> field.shift) & ones(width_of(field))
 }
 
 /// The operand that `code` has in a field: a word, or a prefix times 2^32 and a suffix.
@@ -101,7 +101,7 @@ pub fn read_operand(code: u64, field: &Field) -> i64
     requires { IsTrue (is_readable field.now) }
     ensures { result ≡ operand_in code field.now }
 {
-    operand_of_bits(gather(code, field), field)
+    operand_from(gathered(code, field), field)
 }
 
 /// A code that has the operand in a field, and 0 elsewhere. Of an operand that is out of range it has
@@ -110,7 +110,7 @@ pub fn write_operand(operand: i64, field: &Field) -> u64
     requires { IsTrue (is_readable field.now) }
     ensures { result ≡ code_with field.now operand }
 {
-    scatter(bits_of_operand(operand, field), field)
+    scattered(bits_from(operand, field), field)
 }
 
 /// Whether a field can hold the operand: it lies between the lowest and the highest, and is a multiple
@@ -119,5 +119,5 @@ pub fn is_in_field(operand: i64, field: &Field) -> bool
     requires { IsTrue (is_readable field.now) }
     ensures { IsTrue result ↔ InRange field.now operand }
 {
-    operand_of_bits(bits_of_operand(operand, field), field) == operand
+    operand_from(bits_from(operand, field), field) == operand
 }

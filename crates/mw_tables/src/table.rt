@@ -346,7 +346,7 @@ static ROWS: [Row; 224] = [
 
 /// Where the operands of each row stand, in the order of the rows.
 #[rattlefmt::skip]
-static LAYOUTS: [Layout; 224] = [
+static ROW_LAYOUTS: [Layout; 224] = [
     Layout::DRtRaSi, // addi
     Layout::DRtRaSi, // addis
     Layout::DRtRaSi, // addic
@@ -610,11 +610,11 @@ pub fn by_name(name: &str) -> Option<u16>
 }
 
 /// The layouts of all rows.
-fn all_layouts() -> &'static [Layout]
+fn layouts() -> &'static [Layout]
     ensures value { result.now ≡ layouts }
     ensures count { length result.now ≡ row_count }
 {
-    &LAYOUTS
+    &ROW_LAYOUTS
 }
 
 /// Where the operands of the row at a place of the table stand.
@@ -622,5 +622,5 @@ pub fn layout_at(place: u16) -> Layout
     requires { place < row_count }
     ensures { slice_get layouts place ≡ Some result }
 {
-    all_layouts()[place as usize]
+    layouts()[place as usize]
 }

@@ -3,7 +3,7 @@ ghost use Rattle.mw_text.specs.declared.line.LineFault.TheVariants.{NoMemory as 
 ghost use Rattle.mw_text.specs.Lines.{tokens_of, AreSpans, AreTokens, IfBad, IsRefused, IsSpan};
 ghost use Rattle.mw_text.specs.Texts.{AreLongest};
 
-use crate::piece::{Piece, read_piece};
+use crate::piece::{Piece, piece_at};
 use crate::token::Token;
 use crate::tokens::Tokens;
 use std::alloc::{AllocError, Global};
@@ -43,7 +43,7 @@ pub fn read_line(alloc: Global, line: &[u8]) -> Result<Tokens, LineFault>
     let mut tokens = Tokens::new(alloc);
     let mut at = 0;
     while at < line.len() {
-        match read_piece(&line[at..]) {
+        match piece_at(&line[at..]) {
             Piece::Blank => at += 1,
             Piece::Comment => return Ok(tokens),
             Piece::Found { kind, length } => {

@@ -4,7 +4,7 @@ ghost use Rattle.std.specs.Option.{SomeIff};
 ghost use Rattle.std.specs.Str.Parse.{digits_value};
 
 /// The value of a digit or a letter, from 0 for `0` to 35 for `z` and `Z`, and 36 for any other byte.
-fn digit_of(byte: u8) -> u64
+fn digit_value(byte: u8) -> u64
     ensures value { result ≡ digit_value byte }
     ensures small { result ≤ 36 }
 {
@@ -33,7 +33,7 @@ pub fn number_of(digits: &[u8], base: u64) -> Option<u64>
 {
     let mut value = 0;
     for digit in digits {
-        match with_digit(value, base, digit_of(*digit)) {
+        match with_digit(value, base, digit_value(*digit)) {
             Some(longer) => value = longer,
             None => return None,
         }

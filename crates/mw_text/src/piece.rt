@@ -32,7 +32,7 @@ fn byte_at(rest: &[u8], place: usize) -> u8
 }
 
 /// A byte that may stand in a word.
-fn may_stand_in_word(byte: u8) -> bool
+fn is_of_word(byte: u8) -> bool
     ensures { result ≡ is_of_word byte }
 {
     byte.is_ascii_alphanumeric() || byte == b'_' || byte == b'.'
@@ -42,9 +42,7 @@ fn may_stand_in_word(byte: u8) -> bool
 fn word_length(rest: &[u8]) -> usize
     ensures { result ≡ prefix_len is_of_word rest.now }
 {
-    rest.iter()
-        .take_while(|byte| may_stand_in_word(**byte))
-        .count()
+    rest.iter().take_while(|byte| is_of_word(**byte)).count()
 }
 
 /// How many bytes of the front are decimal digits.
@@ -64,7 +62,7 @@ fn hexadecimal_length(rest: &[u8]) -> usize
 }
 
 /// A word begins: by a letter, `_`, or a `.` that a letter follows.
-fn has_word(rest: &[u8]) -> bool
+fn begins_word(rest: &[u8]) -> bool
     ensures { result ≡ begins_word rest.now }
 {
     let first = byte_at(rest, 0);
@@ -74,7 +72,7 @@ fn has_word(rest: &[u8]) -> bool
 }
 
 /// A hexadecimal number begins: by `0x` and a digit.
-fn has_hexadecimal(rest: &[u8]) -> bool
+fn begins_hexadecimal(rest: &[u8]) -> bool
     ensures { result ≡ begins_hexadecimal rest.now }
 {
     byte_at(rest, 0) == b'0' && byte_at(rest, 1) == b'x' && byte_at(rest, 2).is_ascii_hexdigit()
@@ -82,7 +80,7 @@ fn has_hexadecimal(rest: &[u8]) -> bool
 
 /// The decimal number at the front.
 #[tactic(auto, unfolding(crate::specs::Pieces::decimal_piece))]
-fn decimal_at(rest: &[u8]) -> Piece
+fn decimal_piece(rest: &[u8]) -> Piece
     ensures { result ≡ decimal_piece rest.now }
 {
     let length = decimal_length(rest);
@@ -97,7 +95,7 @@ fn decimal_at(rest: &[u8]) -> Piece
 
 /// The hexadecimal number at the front, behind its `0x`.
 #[tactic(auto, unfolding(crate::specs::Pieces::hexadecimal_piece))]
-fn hexadecimal_at(rest: &[u8]) -> Piece
+fn hexadecimal_piece(rest: &[u8]) -> Piece
     requires { 2 ≤ length rest.now }
     ensures { result ≡ hexadecimal_piece rest.now }
 {
@@ -113,7 +111,7 @@ fn hexadecimal_at(rest: &[u8]) -> Piece
 }
 
 /// The mark that the byte is.
-fn mark_at(byte: u8) -> Piece
+fn mark_piece(byte: u8) -> Piece
     ensures { result ≡ mark_piece byte }
 {
     let kind = match byte {
@@ -131,7 +129,7 @@ fn mark_at(byte: u8) -> Piece
 
 /// What stands at the front of the rest of a line.
 #[tactic(auto, unfolding(crate::specs::Pieces::piece_at))]
-pub fn read_piece(rest: &[u8]) -> Piece
+pub fn piece_at(rest: &[u8]) -> Piece
     ensures value { result ≡ piece_at rest.now }
     ensures fits { FitsPiece (length rest.now) result }
 {
@@ -140,16 +138,16 @@ pub fn read_piece(rest: &[u8]) -> Piece
         Piece::Blank
     } else if first == b'#' {
         Piece::Comment
-    } else if has_word(rest) {
+    } else if begins_word(rest) {
         Piece::Found {
             kind: TokenKind::Word,
             length: word_length(rest),
         }
-    } else if has_hexadecimal(rest) {
-        hexadecimal_at(rest)
+    } else if begins_hexadecimal(rest) {
+        hexadecimal_piece(rest)
     } else if first.is_ascii_digit() {
-        decimal_at(rest)
+        decimal_piece(rest)
     } else {
-        mark_at(first)
+        mark_piece(first)
     }
 }

@@ -2,7 +2,7 @@
 use Rattle.std.proofs.Common.{◌≡◌, ℕ, zero, suc, ◌+◌, ◌-◌, ◌*◌, ◌%◌, ◌^◌, ◌<◌, ◌≤◌, ◌==◌, Bool, true, false, ◌||◌, cond, nat_lt, nat_le, ⊎_elim, List, [], ◌∷◌, ◌++◌, length, map, take, drop, refl, sym, ap, ap₂, subst, zero-add, ◌∙◌, arith, append_assoc, take-add, drop-drop, length-drop, le-leb}
 use Rattle.std.proofs.lemmas.List.{map-append}
 use Rattle.std.proofs.lemmas.Bool.{eqb-true, or_cases, cond_both, cases_lt, cond-true, cond-false, lt-leb}
-use Rattle.mw_uart.specs.UartData.{UartData, start_uart, period_of}
+use Rattle.mw_uart.specs.UartData.{UartData, period_of}
 use Rattle.mw_uart.specs.UartAt.{arrived_by, sent_by, next_due, uart_at}
 use Rattle.mw_uart.specs.Registers.{after_load, after_store, with_number, with_tx}
 use Rattle.byteorder.specs.Endian.{little_number}
@@ -197,16 +197,6 @@ in_one_slot offset width sized aligned =
     (λ (e : (width == 8) ≡ true). by_width offset width 8 (eqb-true width 8 e) aligned (λ h. omega (arith, h)))
     (or_cases (width == 4) (width == 8) a))
     (or_cases (width == 1 || width == 2) (width == 4 || width == 8) sized)
-
--- a byte that is stored at cycle 2 with CLOCK_DIV 0 isn't sent at cycle 161
-pub not_sent_at_161 : (uart_at (after_store (uart_at (start_uart []) 2) 0 (65 ∷ [])) 161).output ≡ []
-unfolding uart_at after_store with_number with_tx sent_by next_due arrived_by
-not_sent_at_161 = refl
-
--- and it is at cycle 162
-pub sent_at_162 : (uart_at (after_store (uart_at (start_uart []) 2) 0 (65 ∷ [])) 162).output ≡ 65 ∷ []
-unfolding uart_at after_store with_number with_tx sent_by next_due arrived_by
-sent_at_162 = refl
 
 -- the UART brought to one cycle after another
 abbrev pub brought_by : UartData → List ℕ → UartData

@@ -48,7 +48,7 @@ impl Model for Uart {
 /// How many of `waiting` bytes are sent by a cycle, the first of them at `due` and one more each
 /// `period`.
 #[tactic(auto, unfolding(crate::specs::UartAt::sent_by))]
-fn sent_count(waiting: usize, due: u64, period: u64, cycle: u64) -> usize
+fn sent_by(waiting: usize, due: u64, period: u64, cycle: u64) -> usize
     requires some { 1 ≤ period }
     requires few { waiting ≤ 16 }
     ensures count { result ≡ sent_by waiting due period cycle }
@@ -68,7 +68,7 @@ fn sent_count(waiting: usize, due: u64, period: u64, cycle: u64) -> usize
 /// The cycle at which the byte is sent that waits behind `sent` of the waiting bytes once these are
 /// sent, or 0 where none does.
 #[tactic(auto, unfolding(crate::specs::UartAt::next_due))]
-fn due_behind(waiting: usize, due: u64, period: u64, sent: usize) -> u64
+fn next_due(waiting: usize, due: u64, period: u64, sent: usize) -> u64
     requires few { sent ≤ 16 }
     requires fits { due + 16 * period < 2 ^ 64 }
     ensures { result ≡ next_due waiting due period sent }
@@ -100,7 +100,7 @@ fn transmit(sending: &mut HeapCircularBuffer<u8>, output: &mut Vec<u8>, count: u
 }
 
 /// How many cycles a byte takes from when it is first to when it is sent, by CLOCK_DIV.
-fn period(div: u16) -> u64
+fn period_of(div: u16) -> u64
     ensures { result ≡ period_of div }
 {
     160 * (div as u64 + 1)
@@ -155,16 +155,16 @@ impl Uart {
         ensures { self.new ≡ record self.old { uart = uart_at self.old.uart cycle } }
     {
         let waiting = self.sending.len();
-        let period = period(self.div);
-        let count = sent_count(waiting, self.due, period, cycle);
+        let period = period_of(self.div);
+        let count = sent_by(waiting, self.due, period, cycle);
         transmit(&mut self.sending, &mut self.output, count);
-        self.due = due_behind(waiting, self.due, period, count);
+        self.due = next_due(waiting, self.due, period, count);
         self.cycle = cycle;
     }
 
     /// STATUS: 1 where the receive queue is empty, 2 where the send queue is, 4 where the receive queue is
     /// full, 8 where the send queue is.
-    fn status(&self) -> u64
+    fn status_of(&self) -> u64
         ensures { result ≡ status_of self.now.uart }
     {
         flag(self.received.is_empty(), 1)
@@ -184,13 +184,13 @@ impl Uart {
     }
 
     /// What the slot of this number reads.
-    fn slot(&self, slot: u32) -> u64
+    fn slot_of(&self, slot: u32) -> u64
         ensures { result ≡ slot_of self.now.uart slot }
     {
         if slot == 1 {
             self.oldest()
         } else if slot == 2 {
-            self.status()
+            self.status_of()
         } else if slot == 3 {
             self.div as u64
         } else if slot == 4 {
@@ -209,7 +209,11 @@ impl Uart {
         ensures value { result ≡ loaded self.old.uart offset width }
         ensures after { self.new ≡ record self.old { uart = after_load self.old.uart offset } }
     {
-        let bytes = covered(self.slot(offset / 8), (offset % 8) as usize, width as usize);
+        let bytes = covered(
+            self.slot_of(offset / 8),
+            (offset % 8) as usize,
+            width as usize,
+        );
         if offset == 8 {
             let _ = self.received.pop_front();
         }
@@ -225,7 +229,7 @@ impl Uart {
             return;
         }
         if self.sending.is_empty() {
-            self.due = self.cycle + period(self.div);
+            self.due = self.cycle + period_of(self.div);
         }
         let _ = self.sending.push_back(byte);
     }

@@ -7,8 +7,8 @@ use Rattle.mw_asm.specs.Values.{written_fields}
 use Rattle.mw_asm.proofs.InstructionLemmas.{operands-refused, operands-more, operands-end, written-readable}
 use Rattle.mw_asm.proofs.instruction.written_operands.Goals as goal
 
-pub operand_in-requires-clause-readable : goal.operand_in-requires-clause-readable
-operand_in-requires-clause-readable c =
+pub operand_by-requires-clause-readable : goal.operand_by-requires-clause-readable
+operand_by-requires-clause-readable c =
     written-readable c.args.pattern c.args.fields.now c.loop-place.place c.written_field-field.result.now c.requires.readable c.written_field-field.ensures
 
 pub returns-in_err-operand-clause-err : goal.returns-in_err-operand-clause-err

@@ -18,25 +18,25 @@ row_at-row-requires c = IsInsn-row c.args.insn.now c.requires
 pub layout_at-requires : goal.layout_at-requires
 layout_at-requires c = IsInsn-row c.args.insn.now c.requires
 
-pub written-operands-requires-clause-each : goal.written-operands-requires-clause-each
-written-operands-requires-clause-each c =
+pub code_with_all-operands-requires-clause-each : goal.code_with_all-operands-requires-clause-each
+code_with_all-operands-requires-clause-each c =
     let insn = c.args.insn.now in
     ap length c.as_slice.ensures.value
     ∙ HasOperands-length _ _ (IsInsn-operands insn insn.row c.layout_at.result c.requires refl c.layout_at.ensures)
     ∙ ap length (sym c.fields_of_layout.ensures.value)
 
 -- what is written is the code of the row
-written_code : (c : goal.After-fixed_bits) → bit_or c.fixed_bits.result (bit_or c.written-operands.result c.written-forms.result) ≡ code_of (row_of c.row_at-row.result.now) c.layout_at.result (all_operands c.args.insn.now)
+written_code : (c : goal.After-fixed_value) → bit_or c.fixed_value.result (bit_or c.code_with_all-operands.result c.code_with_all-forms.result) ≡ code_of (row_of c.row_at-row.result.now) c.layout_at.result (all_operands c.args.insn.now)
 written_code c =
     let insn = c.args.insn.now in
     let row = row_of c.row_at-row.result.now in
     let layout = c.layout_at.result in
-    code_of-written insn row layout c.fields_of_layout.result.now c.flags_of_row.result c.as_slice.result.now c.form_operands.result c.fixed_bits.result c.written-operands.result c.written-forms.result
+    code_of-written insn row layout c.fields_of_layout.result.now c.flags_of_row.result c.as_slice.result.now c.flag_operands.result c.fixed_value.result c.code_with_all-operands.result c.code_with_all-forms.result
     (IsInsn-at insn row layout c.requires c.row_at-row.ensures c.layout_at.ensures)
-    c.fixed_bits.ensures c.written-operands.ensures c.written-forms.ensures c.fields_of_layout.ensures.value c.flags_of_row.ensures.value c.as_slice.ensures.value c.form_operands.ensures
+    c.fixed_value.ensures c.code_with_all-operands.ensures c.code_with_all-forms.ensures c.fields_of_layout.ensures.value c.flags_of_row.ensures.value c.as_slice.ensures.value c.flag_operands.ensures
 
-pub words-requires : goal.words-requires
-words-requires c =
+pub words_of-requires : goal.words_of-requires
+words_of-requires c =
     let insn = c.args.insn.now in
     let row = row_of c.row_at-row.result.now in
     let layout = c.layout_at.result in
@@ -46,7 +46,7 @@ words-requires c =
 pub returns-clause-value : goal.returns-clause-value
 returns-clause-value c =
     let row = row_of c.row_at-row.result.now in
-    c.words.ensures
+    c.words_of.ensures
     ∙ ap (words_of row.prefix) (written_code c.before)
     ∙ sym (encode_of-at c.args.insn.now row c.layout_at.result c.row_at-row.ensures c.layout_at.ensures)
 

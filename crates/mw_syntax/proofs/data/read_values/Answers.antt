@@ -11,17 +11,17 @@ returns-then-read-tokens-clause-ok c =
     rw c.in_ok-push.ensures
     (value-last _ _ c.args.line.now c.args.tokens.now c.loop.place c.in-Ok.read c.loop.values _ (left-suc (length c.args.tokens.now) c.loop.counter c.loop-test.true) (sym c.in-Ok.ensures.value) c.if-read-tokens.true c.loop.invariant.same)
 
-pub returns-then-not-has_mark-clause-err : goal.returns-then-not-has_mark-clause-err
-returns-then-not-has_mark-clause-err c =
-    value-alone _ _ c.args.line.now c.args.tokens.now c.loop.place c.in-Ok.read c.loop.values _ (left-suc (length c.args.tokens.now) c.loop.counter c.loop-test.true) (sym c.in-Ok.ensures.value) c.if-read-tokens.false (sym c.if-not-has_mark.ensures.value) c.loop.invariant.same
+pub returns-then-not-is_mark-clause-err : goal.returns-then-not-is_mark-clause-err
+returns-then-not-is_mark-clause-err c =
+    value-alone _ _ c.args.line.now c.args.tokens.now c.loop.place c.in-Ok.read c.loop.values _ (left-suc (length c.args.tokens.now) c.loop.counter c.loop-test.true) (sym c.in-Ok.ensures.value) c.if-read-tokens.false (sym c.if-not-is_mark.ensures.value) c.loop.invariant.same
 
 pub loop-preserved : goal.loop-preserved
 loop-preserved c =
     record {
-      inside = (let lt : c.in-Ok.read.next < length c.args.tokens.now = c.if-not-has_mark.ensures.inside refl in omega arith);
+      inside = (let lt : c.in-Ok.read.next < length c.args.tokens.now = c.if-not-is_mark.ensures.inside refl in omega arith);
       end = refl;
       same = rw c.in_ok-push.ensures
-          (value-more _ _ c.args.line.now c.args.tokens.now c.loop.place c.in-Ok.read c.loop.values _ (left-suc (length c.args.tokens.now) c.loop.counter c.loop-test.true) (sym c.in-Ok.ensures.value) c.if-read-tokens.false (sym c.if-not-has_mark.ensures.value) c.loop.invariant.same);
+          (value-more _ _ c.args.line.now c.args.tokens.now c.loop.place c.in-Ok.read c.loop.values _ (left-suc (length c.args.tokens.now) c.loop.counter c.loop-test.true) (sym c.in-Ok.ensures.value) c.if-read-tokens.false (sym c.if-not-is_mark.ensures.value) c.loop.invariant.same);
     }
 
 pub returns-clause-err : goal.returns-clause-err

@@ -4,7 +4,7 @@ use Rattle.mw_syntax.specs.declared.item.Kind.TheVariants.{Register}
 use Rattle.mw_syntax.specs.declared.item.Item.TheVariants.{Operand}
 use Rattle.mw_syntax.proofs.ReadingLemmas.{operand-refused, operand-read, mark-refused, mark-read, operands-end, operands-more, kinds-operand, kinds-mark}
 use Rattle.mw_syntax.proofs.operands.read_operands.Goals as goal
-use Rattle.mw_syntax.proofs.operands.read_operands.Goals.{in-Operand+in_ok-read-in-Operand, in-Comma+else-not-has_mark}
+use Rattle.mw_syntax.proofs.operands.read_operands.Goals.{in-Operand+in_ok-read-in-Operand, in-Comma+else-not-is_mark}
 
 pub returns-in_err-read-in-Operand-clause-err : goal.returns-in_err-read-in-Operand-clause-err
 returns-in_err-read-in-Operand-clause-err c =
@@ -12,8 +12,8 @@ returns-in_err-read-in-Operand-clause-err c =
     rw (p.1, p.2)
     (operand-refused c.args.items.now c.loop-item.item-index (Operand Register) c.in-Operand.kind c.args.line.now c.args.tokens.now c.loop-item.place c.in_err-read-in-Operand.field-0.0 c.loop-item.operands.items _ c.loop-item-test.true c.in-Operand.is (sym c.in_err-read-in-Operand.ensures.value) c.loop-item.invariant.same)
 
-pub returns-then-not-has_mark-clause-err : goal.returns-then-not-has_mark-clause-err
-returns-then-not-has_mark-clause-err c =
+pub returns-then-not-is_mark-clause-err : goal.returns-then-not-is_mark-clause-err
+returns-then-not-is_mark-clause-err c =
     mark-refused c.args.items.now c.loop-item.item-index (Operand Register) c.args.line.now c.args.tokens.now c.loop-item.place c.loop-item.operands.items _ c.loop-item-test.true c.in-Comma.is (cc) c.loop-item.invariant.same
 
 pub loop-item-preserved : goal.loop-item-preserved
@@ -23,10 +23,10 @@ loop-item-preserved c =
           (let same = operand-read c.args.items.now c.loop-item.item-index (Operand Register) w.in-Operand.kind c.args.line.now c.args.tokens.now c.loop-item.place w.in_ok-read-in-Operand.read c.loop-item.operands.items _ c.loop-item-test.true w.in-Operand.is (sym w.in_ok-read-in-Operand.ensures.value) c.loop-item.invariant.same in
           let count = kinds-operand c.args.items.now c.loop-item.item-index (Operand Register) w.in-Operand.kind c.loop-item-test.true w.in-Operand.is in
           record { inside = rw w.place-is w.in_ok-read-in-Operand.ensures.next; same = rw (w.operands-is, w.place-is, w.push.ensures.items) same; count = rw w.operands-is (omega (arith, w.push.ensures.len, count, c.loop-item.invariant.count)) })
-      | in-Comma+else-not-has_mark w ↦
+      | in-Comma+else-not-is_mark w ↦
           (let same = mark-read c.args.items.now c.loop-item.item-index (Operand Register) c.args.line.now c.args.tokens.now c.loop-item.place c.loop-item.operands.items _ c.loop-item-test.true w.in-Comma.is (cc) c.loop-item.invariant.same in
           let count = kinds-mark c.args.items.now c.loop-item.item-index (Operand Register) c.loop-item-test.true w.in-Comma.is in
-          record { inside = rw w.place-is (let lt : c.loop-item.place < length c.args.tokens.now = w.if-not-has_mark.ensures.inside refl in omega arith); same = rw (w.operands-is, w.place-is) same; count = rw w.operands-is (omega (arith, count, c.loop-item.invariant.count)) })
+          record { inside = rw w.place-is (let lt : c.loop-item.place < length c.args.tokens.now = w.if-not-is_mark.ensures.inside refl in omega arith); same = rw (w.operands-is, w.place-is) same; count = rw w.operands-is (omega (arith, count, c.loop-item.invariant.count)) })
     ]
 
 pub returns-then-place-tokens-clause-ok : goal.returns-then-place-tokens-clause-ok

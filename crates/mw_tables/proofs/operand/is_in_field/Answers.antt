@@ -10,10 +10,10 @@ same_bits y z p q test = sym (to_z-of_z w64 y p) ∙ ap (to_z w64) (eqb-true (of
 
 pub returns : goal.returns
 returns c =
-    let fits : FitsSigned w64 c.operand_of_bits.result = search rules in
-    let read : c.operand_of_bits.result ≡ operand_from c.args.field.now (bits_from c.args.field.now c.args.operand) =
-    c.operand_of_bits.ensures
-    ∙ ap (operand_from c.args.field.now) (c.bits_of_operand.ensures.value ∙ ap (bits_from c.args.field.now) (to_z-of_z w64 c.args.operand c.ranges.operand)) in (
-      (λ test. bits-InRange c.args.field.now c.args.operand (sym read ∙ same_bits c.operand_of_bits.result c.args.operand fits c.ranges.operand test)),
+    let fits : FitsSigned w64 c.operand_from.result = search rules in
+    let read : c.operand_from.result ≡ operand_from c.args.field.now (bits_from c.args.field.now c.args.operand) =
+    c.operand_from.ensures
+    ∙ ap (operand_from c.args.field.now) (c.bits_from.ensures.value ∙ ap (bits_from c.args.field.now) (to_z-of_z w64 c.args.operand c.ranges.operand)) in (
+      (λ test. bits-InRange c.args.field.now c.args.operand (sym read ∙ same_bits c.operand_from.result c.args.operand fits c.ranges.operand test)),
       (λ within. eq-eqb _ _ (ap (of_z w64) (read ∙ InRange-bits c.args.field.now c.args.operand c.requires within))),
     )

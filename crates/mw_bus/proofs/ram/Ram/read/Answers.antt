@@ -10,4 +10,4 @@ loop-i-init c = refl
 pub loop-i-preserved : goal.loop-i-preserved
 loop-i-preserved c =
     let below : c.loop-i.i < 8 = omega arith in
-    padded-bytes_at c.args.self.now c.args.at c.loop-i.i _ c.loop-i.bytes c.loop-i.invariant below c.byte.ensures
+    padded-bytes_at c.args.self.now c.args.at c.loop-i.i _ c.loop-i.bytes c.loop-i.invariant below c.byte_at.ensures

@@ -10,8 +10,8 @@ pub transmit-requires-clause-room : goal.transmit-requires-clause-room
 transmit-requires-clause-room c =
     let small : c.self.inside.div < 65536 = search rules in
     let after : c.self.inside.cycle ≤ c.args.cycle = search rules in
-    let count : c.sent_count-count.result ≡ sent_by (length c.self.inside.sending.items) c.self.inside.due (period_of c.self.inside.div) c.args.cycle = search rules in
-    let enough = room_enough (length c.self.inside.output.items) (length c.self.inside.sending.items) c.self.inside.due c.self.inside.cycle c.self.inside.room c.args.cycle c.sent_count-count.result c.self.inside.div c.self.invariant.4 after (search rules) small count in
+    let count : c.sent_by-count.result ≡ sent_by (length c.self.inside.sending.items) c.self.inside.due (period_of c.self.inside.div) c.args.cycle = search rules in
+    let enough = room_enough (length c.self.inside.output.items) (length c.self.inside.sending.items) c.self.inside.due c.self.inside.cycle c.self.inside.room c.args.cycle c.sent_by-count.result c.self.inside.div c.self.invariant.4 after (search rules) small count in
     let room : c.self.inside.room ≤ vec_capacity c.self.inside.output = c.self.invariant.3 in
     omega (arith, c.self.inside.output.ok)
 
@@ -19,18 +19,18 @@ pub invariant_of-self : goal.invariant_of-self
 invariant_of-self c =
     let small : c.self.inside.div < 65536 = search rules in
     let after : c.self.inside.cycle ≤ c.args.cycle = search rules in
-    let counts : c.sent_count-count.result ≡ sent_by (length c.self.inside.sending.items) c.self.inside.due (period_of c.self.inside.div) c.args.cycle = search rules in
-    let dues : c.due_behind-self-inside.result ≡ next_due (length c.self.inside.sending.items) c.self.inside.due (period_of c.self.inside.div) c.sent_count-count.result = search rules in
-    let sends : c.transmit.new.sending.items ≡ drop c.sent_count-count.result c.self.inside.sending.items = search rules in
-    let times = timed_lists c.self.inside.cycle c.self.inside.room c.args.cycle c.sent_count-count.result c.self.inside.div c.self.inside.due c.due_behind-self-inside.result c.self.inside.sending.items c.self.inside.output.items c.transmit.new.sending.items c.transmit.new.output.items c.self.invariant.4 after (search rules) small counts dues sends c.transmit.ensures.output in
+    let counts : c.sent_by-count.result ≡ sent_by (length c.self.inside.sending.items) c.self.inside.due (period_of c.self.inside.div) c.args.cycle = search rules in
+    let dues : c.next_due-self-inside.result ≡ next_due (length c.self.inside.sending.items) c.self.inside.due (period_of c.self.inside.div) c.sent_by-count.result = search rules in
+    let sends : c.transmit.new.sending.items ≡ drop c.sent_by-count.result c.self.inside.sending.items = search rules in
+    let times = timed_lists c.self.inside.cycle c.self.inside.room c.args.cycle c.sent_by-count.result c.self.inside.div c.self.inside.due c.next_due-self-inside.result c.self.inside.sending.items c.self.inside.output.items c.transmit.new.sending.items c.transmit.new.output.items c.self.invariant.4 after (search rules) small counts dues sends c.transmit.ensures.output in
     (c.self.invariant.0, (search rules, grind (arith, common_steps)), c.self.invariant.2, search rules, times)
 
 pub returns : goal.returns
 returns c =
-    let counts : c.sent_count-count.result ≡ sent_by (length c.self.inside.sending.items) c.self.inside.due (period_of c.self.inside.div) c.args.cycle = search rules in
-    let dues : c.due_behind-self-inside.result ≡ next_due (length c.self.inside.sending.items) c.self.inside.due (period_of c.self.inside.div) c.sent_count-count.result = search rules in
-    let sends : c.transmit.new.sending.items ≡ drop c.sent_count-count.result c.self.inside.sending.items = search rules in
+    let counts : c.sent_by-count.result ≡ sent_by (length c.self.inside.sending.items) c.self.inside.due (period_of c.self.inside.div) c.args.cycle = search rules in
+    let dues : c.next_due-self-inside.result ≡ next_due (length c.self.inside.sending.items) c.self.inside.due (period_of c.self.inside.div) c.sent_by-count.result = search rules in
+    let sends : c.transmit.new.sending.items ≡ drop c.sent_by-count.result c.self.inside.sending.items = search rules in
     rw (← c.self.view_is)
     (ap (roomy c.self.inside.room)
-    (advanced c.self.inside.cycle c.args.cycle c.self.inside.due c.self.inside.div c.self.inside.enable c.sent_count-count.result c.due_behind-self-inside.result c.self.inside.received.items c.self.inside.sending.items c.self.inside.output.items c.transmit.new.sending.items c.transmit.new.output.items
+    (advanced c.self.inside.cycle c.args.cycle c.self.inside.due c.self.inside.div c.self.inside.enable c.sent_by-count.result c.next_due-self-inside.result c.self.inside.received.items c.self.inside.sending.items c.self.inside.output.items c.transmit.new.sending.items c.transmit.new.output.items
     c.self.invariant.0.1 counts dues sends c.transmit.ensures.output))

@@ -1,0 +1,7 @@
+use Rattle.std.proofs.Common.{◌≡◌, take}
+use Rattle.mw_tables.specs.Layouts.{operands_in}
+use Rattle.mw_decode.proofs.decoder.operands_in.Given as goal
+
+-- what was read are the operands of the fields taken
+abbrev pub invariant-loop-field : goal.invariant-loop-field
+invariant-loop-field l = l.found.items ≡ operands_in l.code (take l.field-index l.fields)

@@ -1,8 +1,0 @@
-use Rattle.std.proofs.Common.{refl}
-use Rattle.mw_tables.specs.Rows.{table, lines}
-use Rattle.mw_decode.specs.Rules.{row_rules}
-use Rattle.mw_decode.proofs.rule.all_rules.Goals as goal
-
-pub returns-clause-value : goal.returns-clause-value
-unfolding row_rules table lines
-returns-clause-value c = refl
