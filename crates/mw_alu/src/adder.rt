@@ -5,21 +5,21 @@ ghost use Rattle.mw_alu.specs.Alu.{carries, carries_word, overflows, overflows_w
 use crate::op::AluOut;
 
 /// Whether a sum carries out of 64 bits.
-fn carry(x: u64, y: u64, more: bool) -> bool
+fn carries(x: u64, y: u64, more: bool) -> bool
     ensures { result ≡ carries x y (from_bool more) }
 {
     u128::from(x) + u128::from(y) + u128::from(more) > 0xffff_ffff_ffff_ffff
 }
 
 /// Whether the sum of the low words carries out of 32 bits.
-fn carry_word(x: u64, y: u64, more: bool) -> bool
+fn carries_word(x: u64, y: u64, more: bool) -> bool
     ensures { result ≡ carries_word x y (from_bool more) }
 {
     x % 0x1_0000_0000 + y % 0x1_0000_0000 + u64::from(more) > 0xffff_ffff
 }
 
 /// Whether the sum of the signed numbers doesn't fit 64 bits: both have one sign, and it has the other.
-fn overflow(x: u64, y: u64, more: bool) -> bool
+fn overflows(x: u64, y: u64, more: bool) -> bool
     ensures { result ≡ overflows x y (from_bool more) }
 {
     let sum = x.wrapping_add(y).wrapping_add(u64::from(more));
@@ -28,7 +28,7 @@ fn overflow(x: u64, y: u64, more: bool) -> bool
 }
 
 /// Whether the sum of the signed low words doesn't fit 32 bits, told in the same way.
-fn overflow_word(x: u64, y: u64, more: bool) -> bool
+fn overflows_word(x: u64, y: u64, more: bool) -> bool
     ensures { result ≡ overflows_word x y (from_bool more) }
 {
     let low = x % 0x1_0000_0000;
@@ -40,14 +40,14 @@ fn overflow_word(x: u64, y: u64, more: bool) -> bool
 
 /// The sum of two numbers, and of 1 where there is one more, modulo 2^64, with its carries and overflows
 /// (Book I, fixed-point arithmetic instructions).
-pub fn sum(x: u64, y: u64, more: bool) -> AluOut
+pub fn sum_of(x: u64, y: u64, more: bool) -> AluOut
     ensures { result ≡ sum_of x y (from_bool more) }
 {
     AluOut {
         value: x.wrapping_add(y).wrapping_add(u64::from(more)),
-        ca: carry(x, y, more),
-        ca32: carry_word(x, y, more),
-        ov: overflow(x, y, more),
-        ov32: overflow_word(x, y, more),
+        ca: carries(x, y, more),
+        ca32: carries_word(x, y, more),
+        ov: overflows(x, y, more),
+        ov32: overflows_word(x, y, more),
     }
 }

@@ -4,7 +4,7 @@ ghost use Rattle.mw_alu.specs.Alu.{valued};
 use crate::op::AluOut;
 
 /// A result without carry or overflow.
-fn plain(value: u64) -> AluOut
+fn valued(value: u64) -> AluOut
     ensures { result ≡ valued value }
 {
     AluOut {
@@ -20,5 +20,5 @@ fn plain(value: u64) -> AluOut
 pub fn or(x: u64, y: u64) -> AluOut
     ensures { result ≡ valued (bit_or x y) }
 {
-    plain(x | y)
+    valued(x | y)
 }

@@ -1,7 +1,7 @@
 ghost use Rattle.std.specs.Prelude.{◌≡◌};
 ghost use Rattle.mw_alu.specs.Alu.{alu_of};
 
-use crate::adder::sum;
+use crate::adder::sum_of;
 use crate::logic::or;
 use crate::op::{AluOp, AluOut};
 
@@ -14,10 +14,10 @@ pub fn alu(op: AluOp, a: u64, b: u64, c: u64, carry: bool) -> AluOut
 {
     let _ = (c, carry);
     match op {
-        AluOp::Addi => sum(a, b, false),
-        AluOp::Addis => sum(a, b << 16, false),
+        AluOp::Addi => sum_of(a, b, false),
+        AluOp::Addis => sum_of(a, b << 16, false),
         AluOp::Ori => or(a, b),
-        AluOp::Add => sum(a, b, false),
-        AluOp::Paddi => sum(a, b, false),
+        AluOp::Add => sum_of(a, b, false),
+        AluOp::Paddi => sum_of(a, b, false),
     }
 }
