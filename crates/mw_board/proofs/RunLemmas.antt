@@ -1,5 +1,5 @@
 -- A run of the plain board: the events so far, the state, and where an instruction isn't built.
-use Rattle.std.proofs.Common.{◌≡◌, ℕ, zero, suc, ◌+◌, ◌-◌, ◌<◌, ◌≤◌, Bool, false, cond, List, [], ◌∷◌, ◌++◌, length, Some, None, option_map, refl, sym, ap, ap₂, ◌∙◌, subst, arith}
+use Rattle.std.proofs.Common.{◌≡◌, ℕ, zero, suc, ◌+◌, ◌-◌, ◌<◌, ◌≤◌, Bool, cond, List, [], ◌∷◌, ◌++◌, length, Some, option_map, refl, sym, ap, ap₂, ◌∙◌, subst, arith}
 use Rattle.std.specs.List.{range_with_len}
 use Rattle.std.specs.List.Sorted.{IsStrictlyIncreasing}
 use Rattle.std.specs.List.{All, Contains}
@@ -13,7 +13,6 @@ use Rattle.mw_soc.specs.DeviceData.{DeviceData}
 use Rattle.mw_isa.specs.State.{State, state_of, brought}
 use Rattle.mw_isa.specs.Start.{start, start_regs}
 use Rattle.mw_soc.specs.Devices.{cycle_of, devices_at, start_devices}
-use Rattle.mw_isa.specs.Step.{step, builds}
 use Rattle.mw_isa.specs.Replay.{acted, replay, state_after, cycle_of_event, cycles_of}
 use Rattle.mw_isa.specs.Unbuilt.{unbuilt_from, first_unbuilt}
 use Rattle.mw_isa.specs.Runs.{Runs}
@@ -88,20 +87,6 @@ made-more image n events cycle event state after below m t =
       ahead = sym u ∙ m.ahead;
       stands = omega arith;
     }
-
--- an instruction that isn't built is the first one
-pub made-unbuilt : (image : List ℕ) (n : ℕ) (events : List Event) (cycle : ℕ) (state : State) → cycle < n → IsMade image n events cycle state → builds (brought cycle state) ≡ false → first_unbuilt image n ≡ Some (cycle, state.regs.cia)
-made-unbuilt image n events cycle state below m u =
-    let left : n - cycle ≡ suc (n - (cycle + 1)) = omega arith in
-    sym m.ahead
-    ∙ ap (λ (l : ℕ). unbuilt_from l cycle state) left
-    ∙ ap (λ (b : Bool). cond b (unbuilt_from (n - (cycle + 1)) (cycle + 1) (step (brought cycle state)).after) (Some (cycle, state.regs.cia))) u
-
--- a run to its end met none
-pub made-built : (image : List ℕ) (n : ℕ) (events : List Event) (state : State) → IsMade image n events n state → first_unbuilt image n ≡ None
-made-built image n events state m =
-    let none : n - n ≡ 0 = omega arith in
-    sym m.ahead ∙ ap (λ (k : ℕ). unbuilt_from k n state) none
 
 -- a run to its end has the headline
 pub made-runs : (image : List ℕ) (n : ℕ) (events : List Event) (state : State) → length image ≤ 16777216 → IsMade image n events n state → Runs image n events (Ran n) (brought n state)

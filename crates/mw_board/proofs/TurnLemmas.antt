@@ -1,5 +1,5 @@
 -- One instruction of the plain board, from what mw_step carried out.
-use Rattle.std.proofs.Common.{◌≡◌, true, Some, refl, sym, ap, ◌∙◌}
+use Rattle.std.proofs.Common.{◌≡◌, true, Some, sym, ap, ◌∙◌}
 use Rattle.mw_isa.specs.declared.event.Event.{Event}
 use Rattle.mw_isa.specs.State.{State}
 use Rattle.mw_soc.specs.Devices.{cycle_of}

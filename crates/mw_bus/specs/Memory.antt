@@ -3,13 +3,17 @@ use Rattle.std.specs.Prelude.{ℕ, ◌+◌, ◌-◌, ◌%◌, ◌^◌, List, [],
 use Rattle.std.specs.List.{range_with_len}
 use Rattle.byteorder.specs.Endian.{big_number, little_number, big_bytes, little_bytes}
 
--- the image from address 0 on, and zeros behind it up to 16 MiB
+-- how many bytes of RAM there are: 16 MiB
+abbrev pub ram_size : ℕ
+ram_size = 16777216
+
+-- the image from address 0 on, and zeros behind it
 abbrev pub ram_of : List ℕ → List ℕ
-ram_of image = image ++ replicate (16777216 - length image) 0
+ram_of image = image ++ replicate (ram_size - length image) 0
 
 -- the byte at a real address: RAM's below 16 MiB, and all ones where RAM isn't
 abbrev pub byte_at : List ℕ → ℕ → ℕ
-byte_at ram at = if nat_lt at 16777216 then slice_index ram at else 255
+byte_at ram at = if nat_lt at ram_size then slice_index ram at else 255
 
 -- the number that an operand's first bytes hold, the byte at the lowest address the most significant one where big, and the least one otherwise
 unfoldable pub number_of : Bool → ℕ → List ℕ → ℕ
@@ -29,7 +33,7 @@ bytes_at ram at n = map (λ i. byte_at ram ((at + i) % 2 ^ 60)) (range_with_len 
 
 -- RAM with this byte at a real address, and RAM as it is where the address lies outside
 abbrev pub byte_put : List ℕ → ℕ → ℕ → List ℕ
-byte_put ram at byte = if nat_lt at 16777216 then slice_set ram at byte else ram
+byte_put ram at byte = if nat_lt at ram_size then slice_set ram at byte else ram
 
 -- RAM with these bytes stored from a real address on, round the end of the 60-bit real address space, each where RAM is
 unfoldable pub laid : List ℕ → ℕ → List ℕ → List ℕ

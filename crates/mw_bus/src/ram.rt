@@ -1,5 +1,5 @@
 ghost use Rattle.std.specs.Prelude.{◌≡◌, ℕ, ◌+◌, ◌^◌, ◌<◌, ◌≤◌, List, length, take, drop, slice_index, slice_set, IfOk, false};
-ghost use Rattle.mw_bus.specs.Memory.{ram_of, word_at, byte_at, bytes_at, byte_put, laid, padded};
+ghost use Rattle.mw_bus.specs.Memory.{ram_of, ram_size, word_at, byte_at, bytes_at, byte_put, laid, padded};
 
 use byteorder::{ByteOrder, LittleEndian};
 use std::alloc::{AllocError as NoMemory, Global};
@@ -22,13 +22,13 @@ impl Model for Ram {
 
     ghost view = { λ r. r.bytes.items };
 
-    ghost invariant = { λ r. length r.bytes.items ≡ 16777216 };
+    ghost invariant = { λ r. length r.bytes.items ≡ ram_size };
 }
 
 impl Ram {
     /// The image from real address 0 on, with zeros behind it. The only error is want of memory.
     pub fn new(alloc: Global, image: &[u8]) -> Result<Ram, NoMemory>
-        requires { length image.now ≤ 16777216 }
+        requires { length image.now ≤ ram_size }
         ensures { IfOk result (λ r. r ≡ ram_of image.now) }
     {
         let mut bytes = Vec::from_slice(alloc, image)?;
@@ -56,7 +56,7 @@ impl Ram {
     fn byte_at(&self, at: u64) -> u8
         ensures { result ≡ byte_at self.now at }
     {
-        if at < 16777216 {
+        if at < RAM_SIZE as u64 {
             self.bytes[at as usize]
         } else {
             255
@@ -80,7 +80,7 @@ impl Ram {
 
     /// The bytes of RAM from an index on, as a dump reads them.
     pub fn slice(&self, at: usize, len: usize) -> &[u8]
-        requires { at + len ≤ 16777216 }
+        requires { at + len ≤ ram_size }
         ensures { result.now ≡ take len (drop at self.now) }
     {
         &self.bytes[at..at + len]

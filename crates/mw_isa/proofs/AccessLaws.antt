@@ -1,8 +1,6 @@
 -- What is known of an access of one of its lengths.
-use Rattle.std.proofs.Common.{◌≡◌, ℕ, zero, suc, ◌≤◌, Bool, true, false, ◌&&◌, ◌||◌, ◌==◌, List, [], ◌∷◌, Some, slice_get, refl, sym, ap, ◌∙◌, arith}
-use Rattle.std.proofs.lemmas.Bool.Decides.{nat_tests}
+use Rattle.std.proofs.Common.{◌≡◌, ℕ, zero, suc, Bool, true, false, ◌&&◌, List, [], ◌∷◌, Some, slice_get, refl, sym, ap, ◌∙◌}
 use Rattle.mw_isa.specs.declared.memory.MemWhat.{MemWhat}
-use Rattle.mw_isa.specs.declared.memory.MemWhat.TheVariants.{Load, Store, Conditional, Zero, Clean, Icbi}
 use Rattle.mw_isa.specs.declared.operation.Operation.{Operation}
 use Rattle.mw_isa.specs.declared.operation.Operation.TheVariants.{Alu, Branch, Storage, Hint, Later}
 use Rattle.mw_isa.specs.declared.operation.StorageRow.{StorageRow}
@@ -50,19 +48,6 @@ sized-at (first ∷ others) (suc place) operation all e =
 -- a row that accesses storage has one of its lengths
 pub storage-sized : (place : ℕ) (row : StorageRow) → slice_get operations place ≡ Some (Storage row) → is_sized_by row.what row.len ≡ true
 storage-sized place row e = sized-at operations place (Storage row) operations-sized e
-
--- one of the lengths of a load or a store
-four_lengths : (len : ℕ) → ((len == 1 || len == 2) || (len == 4 || len == 8)) ≡ true → (1 ≤ len) × (len ≤ 8)
-four_lengths len e = (grind (arith, nat_tests), grind (arith, nat_tests))
-
--- an access has a byte or more, and at most 64
-pub sized-some : (what : MemWhat) (len : ℕ) → is_sized_by what len ≡ true → (1 ≤ len) × (len ≤ 64)
-sized-some (Load signed reversed reserve) len e = let f = four_lengths len e in (f.0, omega (arith, f.1))
-sized-some (Store reversed) len e = let f = four_lengths len e in (f.0, omega (arith, f.1))
-sized-some (Conditional reversed) len e = let f = four_lengths len e in (f.0, omega (arith, f.1))
-sized-some Zero len e = (grind (arith, nat_tests), grind (arith, nat_tests))
-sized-some Clean len e = (grind (arith, nat_tests), grind (arith, nat_tests))
-sized-some Icbi len e = (grind (arith, nat_tests), grind (arith, nat_tests))
 
 -- an access that does this leaves what such an access leaves
 pub accessed-what : (what : MemWhat) (op : MemOp) (state : State) → op.what ≡ what → accessed op state ≡ accessed_as what op state

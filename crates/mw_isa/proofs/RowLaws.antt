@@ -11,7 +11,7 @@ use Rattle.mw_decode.specs.declared.insn.Insn.{Insn}
 use Rattle.mw_decode.specs.Decode.{IsInsn}
 use Rattle.mw_isa.specs.declared.operation.Operation.{Operation}
 use Rattle.mw_isa.specs.Operations.{OperationLine, operations, operation_lines}
-use Rattle.mw_isa.specs.Places.{Role, Written, First, Base, Second, Third, Number, Own, Unused, is_written, is_first, is_base, is_second, is_third, roles_by, limit_of, place_in, places_in, places_by, places_of, IsLimited, AreOperands, IsReadyBy, IsReady, IsRegister, HasRegisters}
+use Rattle.mw_isa.specs.Places.{Role, Written, First, Base, Second, Third, is_written, is_first, is_base, is_second, is_third, roles_by, limit_of, place_in, places_in, places_by, places_of, IsLimited, AreOperands, IsReadyBy, IsReady, IsRegister, HasRegisters}
 
 -- the list of operations names the rows of the table, in the table's order
 pub operations-named : map (λ (line : OperationLine). line.name) operation_lines ≡ map (λ (row : TableRow). row.name) table

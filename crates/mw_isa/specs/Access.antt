@@ -3,7 +3,7 @@
 -- this board's own choice; Book III has what the interrupt is.
 use Rattle.std.specs.Prelude.{ℕ, ◌≡◌, ◌+◌, ◌-◌, ◌*◌, ◌/◌, ◌%◌, ◌^◌, ◌==◌, Bool, true, false, not, ◌&&◌, ◌||◌, if◌then◌else◌, nat_lt, nat_le, List, [], ◌∷◌, take, replicate, Option, Some, None}
 use Rattle.mw_bits.specs.Fields.{sext_of}
-use Rattle.mw_bus.specs.Memory.{bytes_at, laid, number_of, bytes_of}
+use Rattle.mw_bus.specs.Memory.{ram_size, bytes_at, laid, number_of, bytes_of}
 use Rattle.mw_soc.specs.DeviceData.{DeviceData}
 use Rattle.mw_soc.specs.Map.{device_loaded, after_device_load, after_device_store}
 use Rattle.mw_isa.specs.declared.access.Kind.{Kind}
@@ -18,7 +18,6 @@ use Rattle.mw_isa.specs.declared.memory.MemOp.{MemOp}
 use Rattle.mw_isa.specs.declared.outcome.Outcome.{Outcome}
 use Rattle.mw_isa.specs.declared.outcome.Outcome.TheVariants.{Done, Memory}
 use Rattle.mw_isa.specs.declared.outcome.Target.{Target}
-use Rattle.mw_isa.specs.declared.slot.Slot.{Slot}
 use Rattle.mw_isa.specs.declared.slot.Slot.TheVariants.{Gpr, CrField}
 use Rattle.mw_isa.specs.declared.regs.Regs.{Regs}
 use Rattle.mw_isa.specs.State.{State}
@@ -56,7 +55,7 @@ real_byte op = real_of (first_byte op)
 
 -- all bytes lie in RAM
 abbrev pub is_in_ram : MemOp → Bool
-is_in_ram op = nat_le (real_byte op + op.len) 16777216
+is_in_ram op = nat_le (real_byte op + op.len) ram_size
 
 -- the address is a multiple of the length
 abbrev pub is_aligned : MemOp → Bool

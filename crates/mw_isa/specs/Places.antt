@@ -4,7 +4,7 @@ use Rattle.std.specs.Int.{w64, cast_unsigned}
 use Rattle.mw_decode.specs.declared.insn.Insn.{Insn}
 use Rattle.mw_tables.specs.Layouts.{operand_at}
 use Rattle.mw_isa.specs.declared.memory.MemWhat.{MemWhat}
-use Rattle.mw_isa.specs.declared.memory.MemWhat.TheVariants.{Load, Store, Conditional, Zero, Clean, Icbi}
+use Rattle.mw_isa.specs.declared.memory.MemWhat.TheVariants.{Load, Store, Conditional}
 use Rattle.mw_isa.specs.declared.operation.Operation.{Operation}
 use Rattle.mw_isa.specs.declared.operation.Operation.TheVariants.{Alu, Branch, Storage, Hint, Later}
 use Rattle.mw_isa.specs.declared.operation.Address.{Address}

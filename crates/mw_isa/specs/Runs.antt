@@ -11,6 +11,7 @@
 -- isn't built is refused.
 use Rattle.std.specs.Prelude.{ℕ, ◌≡◌, ◌≤◌, ◌<◌, List, length, Some, All}
 use Rattle.std.specs.List.Sorted.{IsStrictlyIncreasing}
+use Rattle.mw_bus.specs.Memory.{ram_size}
 use Rattle.mw_isa.specs.declared.event.Event.{Event}
 use Rattle.mw_isa.specs.declared.event.End.{End}
 use Rattle.mw_isa.specs.declared.event.End.TheVariants.{Ran}
@@ -21,7 +22,7 @@ use Rattle.mw_isa.specs.Lively.{IsLively}
 -- the events are a run of this image for n cycles, with this end and last state
 pub record Runs (image : List ℕ) (n : ℕ) (events : List Event) (end : End) (last : State) : Type 0 where
   -- the image fits RAM
-  pub fits : length image ≤ 16777216
+  pub fits : length image ≤ ram_size
   -- the run reached its number of cycles
   pub stops : end ≡ Ran n
   -- the cycles of the events rise

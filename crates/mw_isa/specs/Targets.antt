@@ -1,15 +1,13 @@
 -- The registers that an instruction writes, known before their values.
-use Rattle.std.specs.Prelude.{ℕ, if◌then◌else◌, List, [], ◌∷◌, Option, Some, None, slice_get}
+use Rattle.std.specs.Prelude.{ℕ, List, [], ◌∷◌, Option, Some, None, slice_get}
 use Rattle.std.specs.Option.{option_map_or}
 use Rattle.mw_decode.specs.declared.insn.Insn.{Insn}
-use Rattle.mw_isa.specs.declared.memory.MemOp.{MemOp}
 use Rattle.mw_isa.specs.declared.memory.MemWhat.{MemWhat}
-use Rattle.mw_isa.specs.declared.memory.MemWhat.TheVariants.{Load, Store, Conditional, Zero, Clean, Icbi}
+use Rattle.mw_isa.specs.declared.memory.MemWhat.TheVariants.{Load, Store, Conditional}
 use Rattle.mw_isa.specs.declared.operation.Ending.{Ending}
 use Rattle.mw_isa.specs.declared.operation.Ending.TheVariants.{Plain}
 use Rattle.mw_isa.specs.declared.operation.Operation.{Operation}
 use Rattle.mw_isa.specs.declared.operation.Operation.TheVariants.{Alu, Branch, Storage, Hint, Later}
-use Rattle.mw_isa.specs.declared.operation.StorageRow.{StorageRow}
 use Rattle.mw_isa.specs.declared.outcome.Outcome.{Outcome}
 use Rattle.mw_isa.specs.declared.outcome.Outcome.TheVariants.{Done, Memory}
 use Rattle.mw_isa.specs.declared.place.Places.{Places}

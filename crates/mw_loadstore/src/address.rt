@@ -1,6 +1,7 @@
 ghost use Rattle.std.specs.Prelude.{◌≡◌, ◌<◌, ◌^◌};
 ghost use Rattle.mw_isa.specs.Access.{block_of, first_byte, is_in_ram, real_byte};
 
+use mw_bus::RAM_SIZE;
 use mw_isa::{MemOp, MemWhat, real_of};
 
 /// The effective address of an access's first byte: that of the aligned block for zeros.
@@ -29,7 +30,7 @@ pub fn real_byte(op: &MemOp) -> u64
 pub fn is_in_ram(op: &MemOp) -> bool
     ensures { result ≡ is_in_ram op.now }
 {
-    real_byte(op) + u64::from(op.len) <= 16777216
+    real_byte(op) + u64::from(op.len) <= RAM_SIZE as u64
 }
 
 /// The number of the real 64-byte block that an access lies in (Book II, reservations). It can't fail.
