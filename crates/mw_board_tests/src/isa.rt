@@ -35,7 +35,7 @@ fn operations_go_by_the_table(rt: HostRuntime) {
     ] {
         assert!(rt; row < 224);
         assert!(rt; row_at(row).name == name, "{name}");
-        assert_eq!(rt; operation_at(row), operation, "{name}");
+        assert!(rt; operation_at(row) == operation, "{name}");
     }
 }
 
