@@ -3,6 +3,6 @@ pub mod WritingLemmas
 pub mod FileLemmas
 pub mod RunLemmas
 pub mod AssemblyLemmas
+pub mod VerdictLemmas
 pub mod CauseLemmas
 pub mod AnswerLemmas
-pub mod ConstantStatus
