@@ -123,6 +123,10 @@ abbrev pub AreWords : {A B E : Type 0} → Result (Vec (String A) B) E → List 
 AreWords (Ok words) given = given ≡ map string_bytes words.items
 AreWords (Err error) given = ⊤
 
--- the process ends with the number of a status that answers the call
+-- the status answers the call, and tells how it went through its files
+abbrev pub EndsAs : Call → Status → Type 0
+EndsAs call status = Answers call status × GoesThrough call status
+
+-- the process ends with the number of such a status
 abbrev pub Ends : Call → ExitCode → Type 0
-Ends call code = (status : Status) × Answers call status × GoesThrough call status × (exit_status code ≡ number_of status)
+Ends call code = (status : Status) × EndsAs call status × (exit_status code ≡ number_of status)

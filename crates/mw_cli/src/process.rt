@@ -1,6 +1,6 @@
 ghost use Rattle.std.specs.Prelude.{◌≡◌, List, ℕ, IsTrue};
 ghost use Rattle.mw_cli.specs.Outside.{change};
-ghost use Rattle.mw_cli.specs.Answers.{AreWords, Ends};
+ghost use Rattle.mw_cli.specs.Answers.{AreWords, EndsAs, Ends};
 
 use crate::main_call::mw_main;
 use crate::refusal::Refusal;
@@ -25,8 +25,34 @@ pub fn words_of<R: Env + AllocGlobal>(rt: &R) -> Result<Vec<String>, AllocError>
     }
 }
 
+/// Does what the words ask for, as `mw_main`. Where there was no memory for them, err is told so.
+fn status_of_words<H: Host, O: Sink, E: Sink>(
+    alloc: Global,
+    words: Result<Vec<String>, AllocError>,
+    host: &mut H,
+    out: &mut O,
+    err: &mut E,
+) -> Status
+    ensures ends { (given : List (List ℕ)) → AreWords words given → EndsAs (record {
+      words = given;
+      host = change (H.state host.old) (H.state host.new);
+      out = change (O.state out.old) (O.state out.new);
+      err = change (E.state err.old) (E.state err.new);
+    }) result }
+    ensures same_files { (H.state host.new).files ≡ (H.state host.old).files }
+    ensures stays_sound { IsTrue (H.state host.old).is_sound → IsTrue (H.state host.new).is_sound }
+{
+    match words {
+        Ok(words) => mw_main(alloc, words.as_slice(), host, out, err),
+        Err(_) => {
+            report(err, Refusal::OutOfMemory);
+            Status::NoMemory
+        }
+    }
+}
+
 /// Does what the words ask for, as `mw_main`, and answers how the process ends: with the number of the status. Where
-/// there was no memory for the words, that is the status of `NoMemory`.
+/// there was no memory for the words, that is the number of `NoMemory`.
 pub fn mw_process<H: Host, O: Sink, E: Sink>(
     alloc: Global,
     words: Result<Vec<String>, AllocError>,
@@ -43,12 +69,6 @@ pub fn mw_process<H: Host, O: Sink, E: Sink>(
     ensures same_files { (H.state host.new).files ≡ (H.state host.old).files }
     ensures stays_sound { IsTrue (H.state host.old).is_sound → IsTrue (H.state host.new).is_sound }
 {
-    let status = match words {
-        Ok(words) => mw_main(alloc, words.as_slice(), host, out, err),
-        Err(_) => {
-            report(err, Refusal::OutOfMemory);
-            Status::NoMemory
-        }
-    };
+    let status = status_of_words(alloc, words, host, out, err);
     ExitCode::from(status.number())
 }
