@@ -8,11 +8,7 @@ mod image;
 mod instruction;
 mod labels;
 mod passes;
-#[cfg(test)]
-mod tests;
 mod value;
-#[cfg(test)]
-mod vectors;
 
 pub use assembler::assemble;
 pub use disassembly::{disassemble, print_statement};

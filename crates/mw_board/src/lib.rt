@@ -8,10 +8,3 @@ mod simulation;
 
 pub use run::{Run, RunFault};
 pub use simulation::simulate;
-
-#[cfg(test)]
-mod device_tests;
-#[cfg(test)]
-mod storage_tests;
-#[cfg(test)]
-mod tests;

@@ -10,8 +10,6 @@ mod refusal;
 mod report;
 mod run;
 mod status;
-#[cfg(test)]
-mod tests;
 mod transfer;
 
 pub use main_call::mw_main;

@@ -6,8 +6,6 @@ mod encoder;
 mod groups;
 mod insn;
 mod rule;
-#[cfg(test)]
-mod tests;
 mod unavailable;
 mod word;
 

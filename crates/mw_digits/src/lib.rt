@@ -4,8 +4,6 @@
 
 mod decimal;
 mod hex_digits;
-#[cfg(test)]
-mod tests;
 
 pub use decimal::{add_decimal, add_signed};
 pub use hex_digits::{add_hex, add_short_hex, hexadecimal, write_hex};

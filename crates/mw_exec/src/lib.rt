@@ -6,8 +6,6 @@ mod branching;
 mod logic;
 mod operand;
 mod storage;
-#[cfg(test)]
-mod tests;
 mod unit;
 
 pub use operand::behind;

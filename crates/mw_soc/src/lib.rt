@@ -5,6 +5,3 @@ mod devices;
 mod system;
 
 pub use devices::Devices;
-
-#[cfg(test)]
-mod tests;

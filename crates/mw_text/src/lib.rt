@@ -4,8 +4,6 @@
 mod line;
 mod number;
 mod piece;
-#[cfg(test)]
-mod tests;
 mod token;
 mod tokens;
 

@@ -5,8 +5,6 @@ mod dump;
 mod laws;
 mod lines;
 mod registers;
-#[cfg(test)]
-mod tests;
 mod text;
 mod words;
 

@@ -4,6 +4,3 @@
 mod uart;
 
 pub use uart::Uart;
-
-#[cfg(test)]
-mod tests;

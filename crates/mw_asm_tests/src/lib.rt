@@ -1,0 +1,11 @@
+//! The tests of the assembler and the disassembler, and of a line of source by itself, over their public calls.
+#![tactic(auto)]
+
+#[cfg(test)]
+mod images;
+#[cfg(test)]
+mod lines;
+#[cfg(test)]
+mod sources;
+#[cfg(test)]
+mod vectors;

@@ -1,0 +1,6 @@
+use Rattle.std.proofs.Common.{◌≡◌}
+use Rattle.mw_board_tests.proofs.trace.given.Given as goal
+
+-- the room stays
+abbrev pub invariant-loop-byte : goal.invariant-loop-byte
+invariant-loop-byte g l = l.devices.room ≡ 64

@@ -1,0 +1,15 @@
+//! The tests of the machine, from one instruction to a run and its text, over their public calls.
+#![tactic(auto)]
+
+#[cfg(test)]
+mod devices;
+#[cfg(test)]
+mod exec;
+#[cfg(test)]
+mod isa;
+#[cfg(test)]
+mod runs;
+#[cfg(test)]
+mod storage;
+#[cfg(test)]
+mod trace;

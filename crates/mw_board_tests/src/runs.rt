@@ -1,0 +1,147 @@
+use mw_board::{RunFault, simulate};
+use mw_isa::{End, Event};
+use std::alloc::{AllocError as NoMemory, Global};
+use std::test::Fail;
+
+/// The bytes of words in little-endian order.
+fn image_of(alloc: Global, words: &[u32]) -> Result<Vec<u8>, NoMemory> {
+    let mut image = Vec::new(alloc);
+    for word in words {
+        image.extend_from_slice(&word.to_le_bytes())?;
+    }
+    Ok(image)
+}
+
+/// An instruction that retires.
+fn retire(cycle: u64, cia: u64, word: u32) -> Event {
+    Event::Retire {
+        cycle,
+        cia,
+        word,
+        suffix: None,
+    }
+}
+
+#[test]
+fn a_run_has_an_event_a_cycle(rt: HostRuntime) -> Result<(), Fail> {
+    let alloc = rt.alloc();
+    // addi r3,0,5; b .
+    let image = [0x05, 0x00, 0x60, 0x38, 0x00, 0x00, 0x00, 0x48];
+    match simulate(alloc, &image, 20000) {
+        Ok(run) => {
+            let events = run.events.as_slice();
+            assert_eq!(rt; events.len(), 20000);
+            assert_eq!(rt; events[0], retire(0, 0, 0x3860_0005));
+            assert_eq!(rt; events[1], retire(1, 4, 0x4800_0000));
+            assert_eq!(rt; events[19999], retire(19999, 4, 0x4800_0000));
+            assert_eq!(rt; run.end, End::Ran { cycle: 20000 });
+            assert_eq!(rt; [run.state.regs.gpr[3], run.state.regs.cia], [5, 4]);
+            assert_eq!(rt; run.state.devices.dec(), 0x7fff_b1df);
+        }
+        Err(fault) => panic!(rt; "{fault:?}"),
+    }
+    match simulate(alloc, &image, 0) {
+        Ok(run) => {
+            assert_eq!(rt; run.events.as_slice().len(), 0);
+            assert_eq!(rt; [run.state.regs.gpr[3], run.state.regs.cia], [0, 0]);
+        }
+        Err(fault) => panic!(rt; "{fault:?}"),
+    }
+    Ok(())
+}
+
+/// The words of an image, a number of cycles, and why there is no run.
+struct Refused(&'static [u32], u64, RunFault);
+
+/// The first instruction isn't built.
+const AT_ONCE: RunFault = RunFault::Unbuilt { cycle: 0, cia: 0 };
+
+#[rattlefmt::skip]
+static REFUSED: [Refused; 16] = [
+    Refused(&[], 1, AT_ONCE),
+    Refused(&[0x3860_0005], 2, RunFault::Unbuilt { cycle: 1, cia: 4 }), // addi r3,0,5
+    Refused(&[0x4800_0008, 0, 0x7ca3_2615], 9, RunFault::Unbuilt { cycle: 1, cia: 8 }), // b 8, addo. r5,r3,r4
+    Refused(&[0x4800_0001], 1, AT_ONCE), // bl 0
+    Refused(&[0x7ca3_2215], 1, AT_ONCE), // add. r5,r3,r4
+    Refused(&[0x7ca3_2614], 1, AT_ONCE), // addo r5,r3,r4
+    Refused(&[0x7ca3_2050], 1, AT_ONCE), // subf r5,r3,r4, a row that isn't built yet
+    Refused(&[0x4400_0002], 1, AT_ONCE), // sc
+    Refused(&[0xc820_0000], 1, AT_ONCE), // lfd f1,0(0), of a facility that isn't there
+    Refused(&[0xb860_0000], 1, AT_ONCE), // lmw r3,0(0), which raises alignment
+    Refused(&[0x0613_ffff, 0x3864_fffc], 1, AT_ONCE), // paddi r3,r4,-4,1, relative with a base
+    Refused(&[0x0700_0001, 0], 1, AT_ONCE), // a prefix that is none
+    Refused(&[0x0400_0000, 0x3860_0005], 1, AT_ONCE), // addi behind a prefix of type 0
+    Refused(&[0x4800_003c, 0, 0, 0, 0, 0, 0, 0, 0, 0, 0, 0, 0, 0, 0, 0x0600_0000, 0x3860_0005], 9,
+        RunFault::Unbuilt { cycle: 1, cia: 60 }), // b 60, and paddi r3,0,5 across two blocks
+    Refused(&[0x4800_003c, 0, 0, 0, 0, 0, 0, 0, 0, 0, 0, 0, 0, 0, 0, 0x0500_0000, 0x3860_0005], 9,
+        RunFault::Unbuilt { cycle: 1, cia: 60 }), // b 60, and a prefix that is none across two blocks
+    Refused(&[0x0600_0000, 0x9060_0041, 0x0600_0001, 0x9060_0000], 3, RunFault::Unbuilt { cycle: 2, cia: 16 }), // pstw twice
+];
+
+#[test]
+fn what_is_not_built_is_refused(rt: HostRuntime) -> Result<(), Fail> {
+    let alloc = rt.alloc();
+    for Refused(words, n, want) in &REFUSED {
+        assert!(rt; *n <= 9);
+        let image = image_of(alloc, *words)?;
+        match simulate(alloc, image.as_slice(), *n) {
+            Ok(_) => panic!(rt; "{words:?} runs"),
+            Err(fault) => assert_eq!(rt; fault, *want, "{words:?}"),
+        }
+    }
+    let zeros = vec![in alloc; 0; 16777217]?;
+    match simulate(alloc, zeros.as_slice(), 0) {
+        Ok(_) => panic!(rt; "too large an image runs"),
+        Err(fault) => assert_eq!(rt; fault, RunFault::ImageTooLarge),
+    }
+    assert!(rt; simulate(alloc, &zeros.as_slice()[1..], 0).is_ok());
+    Ok(())
+}
+
+/// The words of an image, a number of cycles, the last address, and registers with their contents.
+struct Program(&'static [u32], u64, u64, &'static [(usize, u64)]);
+
+#[rattlefmt::skip]
+static PROGRAMS: [Program; 7] = [
+    // addi r3,0,5, and zeros behind it that aren't reached
+    Program(&[0x3860_0005], 1, 4, &[(3, 5)]),
+    // addis r3,0,4660; ori r3,r3,22136; addi r4,0,-1; add r5,r3,r4; b .
+    Program(&[0x3c60_1234, 0x6063_5678, 0x3880_ffff, 0x7ca3_2214, 0x4800_0000], 7, 16,
+        &[(3, 0x1234_5678), (4, 0xffff_ffff_ffff_ffff), (5, 0x1234_5677)]),
+    // addi r0,0,7; addi r3,0,5; add r4,r0,r3; ba 4
+    Program(&[0x3800_0007, 0x3860_0005, 0x7c80_1a14, 0x4800_0006], 4, 4, &[(0, 7), (3, 5), (4, 12)]),
+    // b 12; a zero; ba -4; b -4; to a word outside of RAM, which isn't reached
+    Program(&[0x4800_000c, 0, 0x4bff_fffe, 0x4bff_fffc], 3, 0xffff_ffff_ffff_fffc, &[(3, 0)]),
+    // paddi r3,0,-8589934592,1; b .
+    Program(&[0x0612_0000, 0x3860_0000, 0x4800_0000], 5, 8, &[(3, 0xffff_fffe_0000_0000)]),
+    // b 52; at 52 paddi r3,0,5,0, which ends the block; addi r4,r3,1; b .
+    Program(&[0x4800_0034, 0, 0, 0, 0, 0, 0, 0, 0, 0, 0, 0, 0, 0x0600_0000, 0x3860_0005, 0x3883_0001, 0x4800_0000], 6, 64,
+        &[(3, 5), (4, 6)]),
+    // paddi r3,0,24,1; pld r4,16(0),1; pnop with a suffix that would be a branch; plwa r5,-4(r3),0; b .
+    Program(&[0x0610_0000, 0x3860_0020, 0x0410_0000, 0xe480_0018, 0x0700_0000, 0x4bff_fffc, 0x0403_ffff, 0xa4a3_fffc, 0x4800_0000], 8, 32,
+        &[(3, 32), (4, 0x4800_0000), (5, 0xffff_ffff_a4a3_fffc)]),
+];
+
+#[test]
+fn programs_leave_their_registers(rt: HostRuntime) -> Result<(), Fail> {
+    let alloc = rt.alloc();
+    for Program(words, n, cia, contents) in &PROGRAMS {
+        assert!(rt; *n <= 9);
+        let image = image_of(alloc, *words)?;
+        match simulate(alloc, image.as_slice(), *n) {
+            Ok(run) => {
+                assert_eq!(rt; run.state.regs.cia, *cia, "{words:?}");
+                for (number, content) in *contents {
+                    assert!(rt; *number < 32);
+                    assert_eq!(rt;
+                        run.state.regs.gpr[*number],
+                        *content,
+                        "r{number} of {words:?}"
+                    );
+                }
+            }
+            Err(fault) => panic!(rt; "{fault:?} at {words:?}"),
+        }
+    }
+    Ok(())
+}

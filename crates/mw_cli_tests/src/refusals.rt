@@ -1,0 +1,99 @@
+use crate::shared::{LOOP, SINGLE, words_of};
+use mw_cli::{Status, mw_main};
+use mw_io::{MemHost, RealHost, SureSink};
+use std::test::Fail;
+
+/// Three bytes of it: the word 00600005, which isn't built.
+const CUT: &[u8] = b"\x05\x00\x60";
+
+/// Words, the image that they name, and what is answered and said.
+struct Refused(&'static str, &'static [u8], Status, &'static str);
+
+#[rattlefmt::skip]
+static REFUSED: [Refused; 31] = [
+    Refused("", LOOP, Status::Usage, "mw: usage\n"),
+    Refused("run", LOOP, Status::Usage, "mw: usage\n"),
+    Refused("run img", LOOP, Status::Usage, "mw: usage\n"),
+    Refused("run img --cycles", LOOP, Status::Usage, "mw: usage\n"),
+    Refused("run img --cycles 3 3", LOOP, Status::Usage, "mw: usage\n"),
+    Refused("run img --dump 0:8", LOOP, Status::Usage, "mw: usage\n"),
+    Refused("run img --dump 0:8 --cycles 3", LOOP, Status::Usage, "mw: usage\n"),
+    Refused("run img --cycles 03 --dump 0:8", LOOP, Status::Usage, "mw: usage\n"),
+    Refused("run img --cycles=3", LOOP, Status::Usage, "mw: usage\n"),
+    Refused("run img --cycle 3", LOOP, Status::Usage, "mw: usage\n"),
+    Refused("Run img --cycles 3", LOOP, Status::Usage, "mw: usage\n"),
+    Refused("run  --cycles 3", LOOP, Status::Usage, "mw: usage\n"),
+    Refused("run -img --cycles 3", LOOP, Status::Usage, "mw: usage\n"),
+    Refused("run img --cycles ", LOOP, Status::Usage, "mw: usage\n"),
+    Refused("run img --cycles 05", LOOP, Status::Usage, "mw: usage\n"),
+    Refused("run img --cycles 00", LOOP, Status::Usage, "mw: usage\n"),
+    Refused("run img --cycles +5", LOOP, Status::Usage, "mw: usage\n"),
+    Refused("run img --cycles -5", LOOP, Status::Usage, "mw: usage\n"),
+    Refused("run img --cycles 0x5", LOOP, Status::Usage, "mw: usage\n"),
+    Refused("run img --cycles 4000001", LOOP, Status::Usage, "mw: usage\n"),
+    Refused("run img --cycles 18446744073709551617", LOOP, Status::Usage, "mw: usage\n"),
+    Refused("asm", b"", Status::Usage, "mw: usage\n"),
+    Refused("asm img img", b"", Status::Usage, "mw: usage\n"),
+    Refused("asm -img", b"", Status::Usage, "mw: usage\n"),
+    Refused("run absent --cycles 3", LOOP, Status::ReadFault, "mw: cannot read absent\n"),
+    Refused("asm absent", b"", Status::ReadFault, "mw: cannot read absent\n"),
+    Refused("dis absent", LOOP, Status::ReadFault, "mw: cannot read absent\n"),
+    Refused("asm img", b"frob r3\n", Status::BadInput, "mw: img:1:1: bad input\n"),
+    Refused("run img --cycles 5", CUT, Status::Unbuilt, "mw: unbuilt at 0000000000000000\n"),
+    Refused("run img --cycles 2", SINGLE, Status::Unbuilt, "mw: unbuilt at 0000000000000004\n"),
+    Refused("run img --cycles 1", b"", Status::Unbuilt, "mw: unbuilt at 0000000000000000\n"),
+];
+
+#[test]
+fn an_order_is_refused(rt: HostRuntime) -> Result<(), Fail> {
+    let alloc = rt.alloc();
+    for Refused(line, image, want, said) in &REFUSED {
+        let mut host = MemHost::new(alloc);
+        host.put("img", *image)?;
+        let mut out = SureSink::new(alloc);
+        let mut err = SureSink::new(alloc);
+        let words = words_of(alloc, *line)?;
+        let status = mw_main(alloc, words.as_slice(), &mut host, &mut out, &mut err);
+        assert_eq!(rt; status, *want, "{line}");
+        assert_eq!(rt; out.as_slice(), b"".as_slice(), "{line}");
+        assert_eq!(rt; err.as_slice(), said.as_bytes(), "{line}");
+    }
+    Ok(())
+}
+
+#[test]
+fn a_file_of_the_system_is_absent(rt: HostRuntime) -> Result<(), Fail> {
+    let alloc = rt.alloc();
+    let mut host = RealHost::new(&rt);
+    let mut out = SureSink::new(alloc);
+    let mut err = SureSink::new(alloc);
+    assert_eq!(rt;
+        mw_main(alloc, &[], &mut host, &mut out, &mut err),
+        Status::Usage
+    );
+    let words = words_of(alloc, "run /no/such/image --cycles 3")?;
+    let status = mw_main(alloc, words.as_slice(), &mut host, &mut out, &mut err);
+    assert_eq!(rt; status, Status::ReadFault);
+    assert_eq!(rt; out.as_slice(), b"".as_slice());
+    assert_eq!(rt;
+        err.as_slice(),
+        b"mw: usage\nmw: cannot read /no/such/image\n".as_slice()
+    );
+    Ok(())
+}
+
+#[test]
+fn a_status_has_its_number(rt: HostRuntime) {
+    for (status, number) in [
+        (Status::Done, 0),
+        (Status::Usage, 2),
+        (Status::ReadFault, 3),
+        (Status::WriteFault, 4),
+        (Status::ImageTooLarge, 5),
+        (Status::BadInput, 6),
+        (Status::NoMemory, 7),
+        (Status::Unbuilt, 8),
+    ] {
+        assert_eq!(rt; status.number(), number);
+    }
+}
