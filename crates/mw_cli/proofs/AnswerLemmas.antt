@@ -6,7 +6,7 @@ use Rattle.mw_cli.specs.declared.status.Status.TheVariants.{Done, Usage, ReadFau
 use Rattle.mw_cli.specs.Command.{Wanted, Order, files_of, order_of}
 use Rattle.mw_cli.specs.Verdict.{Output, Verdict, Writes, Refuses, status_by, verdict_of}
 use Rattle.mw_cli.specs.Outside.{Change, contents_of}
-use Rattle.mw_cli.specs.Answers.{Call, ComesTo, Written, CutShort, OnOrder, Refused, Says, Faults, Asks, verdict_with, AreThere, Answers}
+use Rattle.mw_cli.specs.Answers.{Call, ComesTo, Written, CutShort, Refused, Says, Faults, Asks, verdict_with, AreThere, Answers}
 use Rattle.mw_cli.proofs.FileLemmas.{Files}
 
 -- what some value has, the one value has

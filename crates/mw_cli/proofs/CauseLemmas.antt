@@ -1,17 +1,14 @@
 -- Why an order was refused, from the part that refused it, and what its status says.
-use Rattle.std.proofs.Common.{◌≡◌, ℕ, ◌+◌, ◌≤◌, ◌⊎◌, List, [], ◌++◌, length, Option, Some, None, Result, Ok, Err, IsSomeAnd, inl, inr, refl, sym, ap, ◌∙◌, subst, arith}
-use Rattle.std.proofs.lemmas.List.{append-nil}
-use Rattle.std.specs.Option.{option_map_or}
-use Rattle.mw_io.specs.Outside.{HostState, SinkState, Counts, Rose}
-use Rattle.mw_cli.specs.declared.status.Status.{Status}
-use Rattle.mw_cli.specs.declared.status.Status.TheVariants.{Done, Usage, ReadFault, WriteFault, ImageTooLarge, BadInput, NoMemory, Unbuilt}
+use Rattle.std.proofs.Common.{◌≡◌, ℕ, List, Option, Some, IsSomeAnd, inl, inr, refl, sym, subst}
+use Rattle.mw_io.specs.Outside.{HostState, SinkState, Counts}
+use Rattle.mw_cli.specs.declared.status.Status.TheVariants.{Done, ReadFault, WriteFault, NoMemory}
 use Rattle.mw_cli.specs.declared.refusal.Refusal.{Refusal}
 use Rattle.mw_cli.specs.declared.refusal.Refusal.TheVariants.{Unreadable, Unwritable, TooLarge, Bad, OutOfMemory, NotBuilt}
-use Rattle.mw_cli.specs.Command.{Wanted, Order, files_of, files_by, order_of}
-use Rattle.mw_cli.specs.Outside.{Change, change, Opens, TookNothing, TookUnlessFault}
+use Rattle.mw_cli.specs.Command.{Order, order_of}
+use Rattle.mw_cli.specs.Outside.{Change, change, TookNothing, TookUnlessFault}
 use Rattle.mw_cli.specs.Numbers.{status_of}
-use Rattle.mw_cli.specs.Answers.{Call, Gives, OnOrder, Says, Faults, GoesThrough}
-use Rattle.mw_cli.specs.Stages.{line_of, ending, GivesNothing, IsWriteRefusal, HasCause}
+use Rattle.mw_cli.specs.Answers.{Call, Gives, OnOrder, Says, Faults}
+use Rattle.mw_cli.specs.Stages.{line_of, GivesNothing, IsWriteRefusal, HasCause}
 use Rattle.mw_cli.proofs.VerdictLemmas.{calm}
 
 -- an order that gives nothing to write
@@ -74,13 +71,12 @@ done-faults host out reads writes wants = record {
   wants = λ h. wants;
 }
 
--- nothing was asked of the host or of out
-pub idle-faults : (h : HostState) (s : SinkState) (status : Status) → ¬ (status ≡ ReadFault) → ¬ (status ≡ WriteFault) → Faults (change h h) (change s s) status
-idle-faults h s status reads writes = record {
-  reads = calm h.faults h.faults (status ≡ ReadFault) refl reads;
-  writes = calm s.faults s.faults (status ≡ WriteFault) refl writes;
-  wants = λ h. refl;
-}
+-- what out's counts did where all was written
+pub unwritten : (before after : ℕ) → Counts before after (Done ≡ WriteFault) → after ≡ before
+unwritten before after counts = counts.stays (λ (e : Done ≡ WriteFault). cc)
+
+pub unwanted : (before after : ℕ) → Counts before after (Done ≡ NoMemory) → after ≡ before
+unwanted before after counts = counts.stays (λ (e : Done ≡ NoMemory). cc)
 
 -- what some order has, the words' order has
 on-order : (call : Call) (order : Order) (P : Order → Type 0) → order_of call.words ≡ Some order → P order → OnOrder call P
@@ -95,19 +91,3 @@ says-refused call order (Bad name line column) e (cause, silent) told = on-order
 says-refused call order Unwritable e cause told = (on-order call order _ e cause, told)
 says-refused call order OutOfMemory e (inl silent) told = (inl silent, told)
 says-refused call order OutOfMemory e (inr (rose, cut)) told = (inr (rose, on-order call order _ e cut), told)
-
--- all files of an order were opened
-pub goes-through : (call : Call) (status : Status) (order : Order) → order_of call.words ≡ Some order → Opens call.host (files_of order) → GoesThrough call status
-goes-through call status order e opens = (files_of order, [], ap (λ (o : Option Order). option_map_or files_of o []) e ∙ sym (append-nil (files_of order)), opens, λ h. refl)
-
--- no file was opened
-idle-opens : (h : HostState) → Opens (change h h) []
-idle-opens h = record { opened = (omega arith, omega arith); given = omega arith; left = tt }
-
--- as where the words are no order
-pub goes-nowhere : (words : List (List ℕ)) (h : HostState) (out err : Change SinkState) (status : Status) → order_of words ≡ None → GoesThrough (record { words = words; host = change h h; out = out; err = err }) status
-goes-nowhere words h out err status e = ([], [], ap (λ (o : Option Order). option_map_or files_of o []) e, idle-opens h, λ h. refl)
-
--- or where memory is wanting for them
-pub goes-unread : (words : List (List ℕ)) (h : HostState) (out err : Change SinkState) → GoesThrough (record { words = words; host = change h h; out = out; err = err }) NoMemory
-goes-unread words h out err = ([], files_by words, refl, idle-opens h, λ (h : (NoMemory ≡ Done) ⊎ (NoMemory ≡ WriteFault)). elim h [ | inl e ↦ cc | inr e ↦ cc ])

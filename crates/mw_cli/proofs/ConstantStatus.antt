@@ -1,5 +1,5 @@
 -- No refusal can be answered at every call: the contract itself excludes a program that always gives one of them.
-use Rattle.std.proofs.Common.{◌≡◌, ℕ, ◌≤◌, List, length, Option, Some, None, Ok, Err, IfSome, sym, ap, subst, ◌∙◌, arith}
+use Rattle.std.proofs.Common.{◌≡◌, ℕ, ◌≤◌, List, length, Option, Some, None, Ok, IfSome, ap, subst, ◌∙◌, arith}
 use Rattle.mw_io.specs.Outside.{HostState, Rose, content_of}
 use Rattle.mw_asm.specs.Assembled.{assembled}
 use Rattle.mw_isa.specs.Unbuilt.{first_unbuilt}

@@ -1,5 +1,5 @@
 -- What the answers say of each status by itself, for any order and for a run, a source and a disassembly.
-use Rattle.std.proofs.Common.{◌≡◌, ℕ, ◌<◌, ◌≤◌, ◌⊎◌, inl, inr, cond, List, [], ◌∷◌, length, Option, Some, None, Result, Ok, Err, IfSome, IsSomeAnd, IsTrue, option_map, slice_get, refl, sym, ap, ◌∙◌, subst, arith}
+use Rattle.std.proofs.Common.{◌≡◌, ℕ, ◌<◌, ◌≤◌, ◌⊎◌, inl, inr, List, [], ◌∷◌, length, Option, Some, None, Result, Ok, Err, IfSome, IsSomeAnd, IsTrue, option_map, slice_get, refl, sym, ap, ◌∙◌, subst, arith}
 use Rattle.std.proofs.lemmas.Bool.{cases_lt}
 use Rattle.mw_io.specs.Outside.{HostState, Counts, Rose, content_of}
 use Rattle.mw_isa.specs.Unbuilt.{first_unbuilt}
@@ -8,14 +8,13 @@ use Rattle.mw_asm.specs.Assembled.{assembled}
 use Rattle.mw_asm.specs.Disassembly.{disassembly}
 use Rattle.mw_cli.specs.declared.status.Status.{Status}
 use Rattle.mw_cli.specs.declared.status.Status.TheVariants.{Done, Usage, ReadFault, WriteFault, ImageTooLarge, BadInput, NoMemory, Unbuilt}
-use Rattle.mw_cli.specs.Command.{Wanted, RunOrder, Order, Run, Assemble, Disassemble, files_of, order_of}
-use Rattle.mw_cli.specs.Verdict.{Output, TextOf, Bytes, Verdict, Writes, Refuses, status_by, first_of, verdict_of, unless_too_large, unless_unbuilt, unless_bad, too_large_line, unbuilt_line, bad_line}
+use Rattle.mw_cli.specs.Command.{RunOrder, Order, Run, Assemble, Disassemble, files_of, order_of}
+use Rattle.mw_cli.specs.Verdict.{Output, TextOf, Bytes, Verdict, Refuses, status_by, first_of, unless_too_large, unless_unbuilt, unless_bad, too_large_line, unbuilt_line, bad_line}
 use Rattle.mw_cli.specs.Outside.{Change, TookNothing}
-use Rattle.mw_cli.specs.Answers.{Call, ComesTo, OnOrder, Refused, Says, Asks, IsUnanswered, Answers}
+use Rattle.mw_cli.specs.Answers.{Call, ComesTo, OnOrder, Asks, IsUnanswered, Answers}
 use Rattle.mw_cli.specs.Stages.{IsContent, IsTooLong, ReachesUnbuilt}
 use Rattle.mw_cli.proofs.FileLemmas.{Files}
 use Rattle.mw_cli.proofs.VerdictLemmas.{fits, too_long}
-use Rattle.mw_cli.proofs.AnswerLemmas.{at_some}
 
 -- ---- Usage
 
@@ -35,7 +34,7 @@ always-usage call ReadFault none a = absurd (no_order _ _ none a.says)
 always-usage call WriteFault none a = absurd (no_order _ _ none a.says.0)
 always-usage call ImageTooLarge none a = absurd (no_order _ _ none a.says)
 always-usage call BadInput none a = absurd (no_order _ _ none a.says)
-always-usage call NoMemory none a = elim a.says.0 [ | inl silent ↦ inr (refl, silent) | inr (rose, cut) ↦ absurd (no_order _ _ none cut) ]
+always-usage call NoMemory none a = elim a.says.0 [ inl silent ↦ inr (refl, silent) | inr (rose, cut) ↦ absurd (no_order _ _ none cut) ]
 always-usage call Unbuilt none a = absurd (no_order _ _ none a.says)
 
 -- ---- ReadFault and WriteFault
@@ -137,7 +136,7 @@ pub source-unbuilt : (host : Change HostState) (name line : List ℕ) → ComesT
 source-unbuilt host name line (contents, are, comes) = let (other, rest) = source-refused name _ Unbuilt line comes in cc
 
 pub listing-unbuilt : (host : Change HostState) (name line : List ℕ) → ComesTo host (Disassemble name) (Refuses Unbuilt line) → ⊥
-listing-unbuilt host name line (contents, are, comes) = elim (long-or-so (first_of contents) _ Unbuilt line comes) [ | inl (long, e) ↦ cc | inr (short, e) ↦ cc ]
+listing-unbuilt host name line (contents, are, comes) = elim (long-or-so (first_of contents) _ Unbuilt line comes) [ inl (long, e) ↦ cc | inr (short, e) ↦ cc ]
 
 -- with BadInput a source is refused, and its place is told
 pub source-bad : (host : Change HostState) (name line : List ℕ) → ComesTo host (Assemble name) (Refuses BadInput line) → (source : List ℕ) × (place : Place) × IsContent host name source × (assembled source ≡ Err place) × (line ≡ bad_line name place.line place.column)
@@ -153,7 +152,7 @@ run-bad host order line (contents, are, comes) = elim (long-or-so (first_of cont
 ]
 
 pub listing-bad : (host : Change HostState) (name line : List ℕ) → ComesTo host (Disassemble name) (Refuses BadInput line) → ⊥
-listing-bad host name line (contents, are, comes) = elim (long-or-so (first_of contents) _ BadInput line comes) [ | inl (long, e) ↦ cc | inr (short, e) ↦ cc ]
+listing-bad host name line (contents, are, comes) = elim (long-or-so (first_of contents) _ BadInput line comes) [ inl (long, e) ↦ cc | inr (short, e) ↦ cc ]
 
 -- ---- and always there, but for a call of the host that failed and for want of memory
 

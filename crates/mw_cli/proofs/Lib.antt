@@ -6,3 +6,5 @@ pub mod AssemblyLemmas
 pub mod VerdictLemmas
 pub mod CauseLemmas
 pub mod AnswerLemmas
+pub mod EachStatus
+pub mod ConstantStatus

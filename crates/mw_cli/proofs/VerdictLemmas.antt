@@ -1,21 +1,19 @@
 -- What an order comes to, from what its part found.
-use Rattle.std.proofs.Common.{◌≡◌, ℕ, ◌+◌, ◌<◌, ◌≤◌, Bool, cond, List, [], ◌∷◌, length, Option, Some, None, Result, Ok, Err, IfOk, IfErr, IfSome, IsSomeAnd, option_map, slice_get, inl, inr, refl, sym, ap, ◌∙◌, subst, arith}
+use Rattle.std.proofs.Common.{◌≡◌, ℕ, ◌<◌, ◌≤◌, Bool, cond, List, [], ◌∷◌, length, Option, Some, None, Result, Ok, Err, IfOk, IfErr, IfSome, IsSomeAnd, option_map, slice_get, refl, sym, ap, ◌∙◌, subst, arith}
 use Rattle.std.proofs.lemmas.Bool.{lt-ltb, le-ltb}
-use Rattle.mw_io.specs.Outside.{HostState, SinkState, Counts, RoseBy, content_of}
-use Rattle.mw_isa.specs.Unbuilt.{first_unbuilt}
+use Rattle.mw_io.specs.Outside.{HostState, Counts, RoseBy, content_of}
 use Rattle.mw_asm.specs.declared.fault.Place.{Place}
 use Rattle.mw_asm.specs.Assembled.{assembled}
 use Rattle.mw_asm.specs.Disassembly.{disassembly}
-use Rattle.mw_cli.specs.declared.status.Status.{Status}
-use Rattle.mw_cli.specs.declared.status.Status.TheVariants.{Done, ReadFault, WriteFault, ImageTooLarge, BadInput, NoMemory, Unbuilt}
+use Rattle.mw_cli.specs.declared.status.Status.TheVariants.{Done, ReadFault, ImageTooLarge, BadInput, Unbuilt}
 use Rattle.mw_cli.specs.declared.refusal.Refusal.{Refusal}
 use Rattle.mw_cli.specs.declared.refusal.Refusal.TheVariants.{Unreadable, Unwritable, TooLarge, Bad, OutOfMemory, NotBuilt}
 use Rattle.mw_cli.specs.Command.{RunOrder, Order, Run, Assemble, Disassemble, Wanted, files_of}
 use Rattle.mw_cli.specs.Headline.{SpellsRun}
-use Rattle.mw_cli.specs.Verdict.{Output, TextOf, Bytes, Verdict, Writes, Refuses, verdict_of, unless_too_large, unless_unbuilt, unless_bad, too_large_line, unbuilt_line, bad_line}
-use Rattle.mw_cli.specs.Outside.{Change, change}
+use Rattle.mw_cli.specs.Verdict.{TextOf, Bytes, Verdict, Writes, Refuses, verdict_of, unless_too_large, unless_unbuilt, unless_bad, too_large_line, unbuilt_line, bad_line}
+use Rattle.mw_cli.specs.Outside.{Change}
 use Rattle.mw_cli.specs.Answers.{ComesTo, Gives, IsUnread}
-use Rattle.mw_cli.specs.Stages.{ending, IsContent, IsAbsent, IsReadRefusal, IsTooLong, IsLoadRefusal, IsRunRefusal, ReachesUnbuilt, GivesNothing}
+use Rattle.mw_cli.specs.Stages.{ending, IsContent, IsAbsent, IsReadRefusal, IsLoadRefusal, IsRunRefusal, GivesNothing}
 use Rattle.mw_cli.proofs.FileLemmas.{Files}
 use Rattle.mw_cli.proofs.RunLemmas.{spelled}
 
@@ -113,6 +111,10 @@ run-refused host order image (Err refusal) is short cause = run-stops host order
 -- a count that stays, where its cause didn't come
 pub calm : (before after : ℕ) (came : Type 0) → after ≡ before → ¬ came → Counts before after came
 calm before after came e h = record { later = omega arith; rose = λ c. absurd (h c); stays = λ n. e }
+
+-- what a count of faults did in a part that came to its end
+pub stayed : (before after : ℕ) → Counts before after (Done ≡ ReadFault) → after ≡ before
+stayed before after counts = counts.stays (λ (e : Done ≡ ReadFault). cc)
 
 -- a run that has no text didn't fail to read
 run-read : (image : List ℕ) (n : ℕ) (refusal : Refusal) → IsRunRefusal image n refusal → ending {T = List ℕ} (Err refusal) ≡ ReadFault → ⊥

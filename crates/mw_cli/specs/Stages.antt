@@ -1,5 +1,5 @@
 -- What the parts of a call say, each of its own refusals.
-use Rattle.std.specs.Prelude.{ℕ, ◌+◌, ◌≡◌, ◌<◌, ◌≤◌, ◌⊎◌, List, length, take, Option, Some, None, Result, Ok, Err, IfSome, IsSomeAnd, IsTrue, ⊤}
+use Rattle.std.specs.Prelude.{ℕ, ◌+◌, ◌≡◌, ◌<◌, ◌⊎◌, List, length, take, Some, None, Result, Ok, Err, IfSome, IsSomeAnd, IsTrue, ⊤}
 use Rattle.mw_io.specs.Outside.{HostState, SinkState, Rose, content_of}
 use Rattle.mw_isa.specs.Unbuilt.{first_unbuilt}
 use Rattle.mw_cli.specs.declared.status.Status.{Status}

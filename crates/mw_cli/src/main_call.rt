@@ -21,7 +21,7 @@ use std::alloc::Global;
 
 /// The status of a refusal.
 fn status_for(refusal: Refusal<'_>) -> Status
-    ensures { result ≡ status_of refusal }
+    ensures { result ≡ status_of refusal.entry }
 {
     match refusal {
         Refusal::Unreadable { .. } => Status::ReadFault,

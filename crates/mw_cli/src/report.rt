@@ -114,7 +114,7 @@ fn report_three<S: Sink>(err: &mut S, first: &[u8], second: &[u8], third: &[u8])
 /// Writes to err the line of a refusal: its cause, with the file's name, the refused place or the instruction's address
 /// where it has one. Where a write fails, err keeps a front of the line.
 pub fn report<S: Sink>(err: &mut S, refusal: Refusal<'_>)
-    ensures took { TookUnlessFault (change (S.state err.old) (S.state err.new)) (line_of refusal) }
+    ensures took { TookUnlessFault (change (S.state err.old) (S.state err.new)) (line_of refusal.entry) }
     ensures faults { (S.state err.old).faults ≤ (S.state err.new).faults }
     ensures wants { (S.state err.old).wants ≤ (S.state err.new).wants }
 {

@@ -1,4 +1,4 @@
-use Rattle.std.proofs.Common.{ℕ, inr, List, ◌++◌, codes, refl, ap, subst}
+use Rattle.std.proofs.Common.{ℕ, inr, List, ◌++◌, codes, subst}
 use Rattle.mw_cli.specs.Verdict.{place_line}
 use Rattle.mw_cli.specs.Outside.{change, TookUnlessFault}
 use Rattle.mw_cli.proofs.WritingLemmas.{both-cases, first-stopped, took_or_stopped}

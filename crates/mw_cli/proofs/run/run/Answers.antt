@@ -1,8 +1,8 @@
-use Rattle.std.proofs.Common.{List, ℕ, sym, ◌≡◌, ◌≤◌, length, subst, arith}
+use Rattle.std.proofs.Common.{List, ℕ, sym, ◌≤◌, length, subst}
 use Rattle.mw_cli.specs.Command.{run_in}
 use Rattle.mw_cli.specs.Outside.{change}
 use Rattle.mw_cli.specs.Stages.{IsContent}
-use Rattle.mw_cli.proofs.VerdictLemmas.{run-unread, run-gives, run-refused, run-calm}
+use Rattle.mw_cli.proofs.VerdictLemmas.{run-unread, run-gives, run-refused, run-calm, stayed}
 use Rattle.mw_cli.proofs.run.run.Goals as goal
 
 pub returns-in-Err-clause-refused : goal.returns-in-Err-clause-refused
@@ -23,4 +23,5 @@ returns-clause-refused g c =
     run-refused host (run_in c.args.command.now) c.as_slice.result.now c.text_of_run.result is short c.text_of_run.ensures.refused
 
 pub returns-clause-faults : goal.returns-clause-faults
-returns-clause-faults g c = ?
+returns-clause-faults g c =
+    run-calm c.as_slice.result.now c.args.command.now.cycles (g.H.Host.state c.args.host.now).faults (g.H.Host.state c.read_image.new.host).faults c.text_of_run.result (stayed _ _ c.in-Ok.ensures.faults) c.text_of_run.ensures.refused
