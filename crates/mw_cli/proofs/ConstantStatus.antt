@@ -3,16 +3,14 @@ use Rattle.std.proofs.Common.{◌≡◌, ℕ, ◌≤◌, List, length, Option, S
 use Rattle.mw_io.specs.Outside.{HostState, Rose, content_of}
 use Rattle.mw_asm.specs.Assembled.{assembled}
 use Rattle.mw_isa.specs.Unbuilt.{first_unbuilt}
-use Rattle.mw_cli.specs.declared.status.Status.{Status}
 use Rattle.mw_cli.specs.declared.status.Status.TheVariants.{Usage, ReadFault, WriteFault, ImageTooLarge, BadInput, Unbuilt}
 use Rattle.mw_cli.specs.Command.{RunOrder, Order, Run, Assemble, Disassemble, order_of}
-use Rattle.mw_cli.specs.Verdict.{Refuses}
 use Rattle.mw_cli.specs.Outside.{Change}
-use Rattle.mw_cli.specs.Answers.{Call, ComesTo, Refused, Asks, Answers}
+use Rattle.mw_cli.specs.Answers.{Call, Asks, Answers}
 use Rattle.mw_cli.specs.Stages.{IsContent, IsTooLong}
 use Rattle.mw_cli.proofs.FileLemmas.{Files}
-use Rattle.mw_cli.proofs.AnswerLemmas.{at_some, some_or_none}
-use Rattle.mw_cli.proofs.EachStatus.{usage, read-fault, write-fault, run-too-large, listing-too-large, run-unbuilt, run-bad, listing-bad, source-bad}
+use Rattle.mw_cli.proofs.AnswerLemmas.{some_or_none}
+use Rattle.mw_cli.proofs.EachStatus.{usage, read-fault, write-fault, too-large, too-large-disassembly, unbuilt, bad-input, bad-run, bad-disassembly}
 
 -- Usage isn't answered where the words are an order
 pub never-usage : (call : Call) (order : Order) → order_of call.words ≡ Some order → Answers call Usage → ⊥
@@ -26,10 +24,6 @@ never-read-fault call calm a = calm (read-fault call a)
 pub never-write-fault : (call : Call) → ¬ (Rose call.out.before.faults call.out.after.faults) → Answers call WriteFault → ⊥
 never-write-fault call calm a = calm (write-fault call a)
 
--- what an order that is refused comes to
-comes : (call : Call) (status : Status) (order : Order) → order_of call.words ≡ Some order → Refused call status → (line : List ℕ) × ComesTo call.host order (Refuses status line)
-comes call status order asked h = let (line, is, only) = at_some (order_of call.words) _ order asked h in (line, is)
-
 -- the content of a file of a host that tells its files
 told-content : (host : Change HostState) (name bytes : List ℕ) (told : List ℕ → Option (List ℕ)) → host.before.files ≡ Some told → IsContent host name bytes → bytes ≡ content_of told name
 told-content host name bytes told files is = subst (λ (o : Files). IfSome o (λ t. bytes ≡ content_of t name)) files is
@@ -42,36 +36,30 @@ not-long host name told files short (image, is, long) =
 
 -- ImageTooLarge isn't answered where the file of a run fits RAM
 pub never-too-large : (call : Call) (order : RunOrder) (told : List ℕ → Option (List ℕ)) → Asks call (Run order) told → length (content_of told order.image) ≤ 16777216 → Answers call ImageTooLarge → ⊥
-never-too-large call order told asks short a =
-    let (line, is) = comes call ImageTooLarge (Run order) asks.0 a.says in
-    not-long call.host order.image told asks.1 short (run-too-large call.host order line is)
+never-too-large call order told asks short a = not-long call.host order.image told asks.1 short (too-large call order asks.0 a)
 
 -- nor where that of a disassembly does
 pub never-too-large-disassembly : (call : Call) (image : List ℕ) (told : List ℕ → Option (List ℕ)) → Asks call (Disassemble image) told → length (content_of told image) ≤ 16777216 → Answers call ImageTooLarge → ⊥
-never-too-large-disassembly call image told asks short a =
-    let (line, is) = comes call ImageTooLarge (Disassemble image) asks.0 a.says in
-    not-long call.host image told asks.1 short (listing-too-large call.host image line is)
+never-too-large-disassembly call image told asks short a = not-long call.host image told asks.1 short (too-large-disassembly call image asks.0 a)
 
 -- BadInput isn't answered where the words ask for a run
 pub never-bad-run : (call : Call) (order : RunOrder) → order_of call.words ≡ Some (Run order) → Answers call BadInput → ⊥
-never-bad-run call order asked a = let (line, is) = comes call BadInput (Run order) asked a.says in run-bad call.host order line is
+never-bad-run call order asked a = bad-run call order asked a
 
 -- or for a disassembly
 pub never-bad-disassembly : (call : Call) (image : List ℕ) → order_of call.words ≡ Some (Disassemble image) → Answers call BadInput → ⊥
-never-bad-disassembly call image asked a = let (line, is) = comes call BadInput (Disassemble image) asked a.says in listing-bad call.host image line is
+never-bad-disassembly call image asked a = bad-disassembly call image asked a
 
 -- nor where the source has bytes
 pub never-bad-input : (call : Call) (name : List ℕ) (told : List ℕ → Option (List ℕ)) (bytes : List ℕ) → Asks call (Assemble name) told → assembled (content_of told name) ≡ Ok bytes → Answers call BadInput → ⊥
 never-bad-input call name told bytes asks ok a =
-    let (line, is) = comes call BadInput (Assemble name) asks.0 a.says in
-    let (source, place, content, bad, told') = source-bad call.host name line is in
+    let (source, place, content, bad) = bad-input call name asks.0 a in
     let same : assembled source ≡ Ok bytes = ap assembled (told-content call.host name source told asks.1 content) ∙ ok in
     cc
 
 -- Unbuilt isn't answered where all that a run reaches is built
 pub never-unbuilt : (call : Call) (order : RunOrder) (told : List ℕ → Option (List ℕ)) → Asks call (Run order) told → first_unbuilt (content_of told order.image) order.cycles ≡ None → Answers call Unbuilt → ⊥
 never-unbuilt call order told asks built a =
-    let (line, is) = comes call Unbuilt (Run order) asks.0 a.says in
-    let (image, cia, content, short, (cycle, stop), told') = run-unbuilt call.host order line is in
+    let (image, cia, content, short, (cycle, stop)) = unbuilt call order asks.0 a in
     let same : first_unbuilt image order.cycles ≡ None = ap (λ (bytes : List ℕ). first_unbuilt bytes order.cycles) (told-content call.host order.image image told asks.1 content) ∙ built in
     cc

@@ -11,10 +11,11 @@ use Rattle.mw_cli.specs.declared.status.Status.TheVariants.{Done, Usage, ReadFau
 use Rattle.mw_cli.specs.Command.{RunOrder, Order, Run, Assemble, Disassemble, files_of, order_of}
 use Rattle.mw_cli.specs.Verdict.{Output, TextOf, Bytes, Verdict, Refuses, status_by, first_of, unless_too_large, unless_unbuilt, unless_bad, too_large_line, unbuilt_line, bad_line}
 use Rattle.mw_cli.specs.Outside.{Change, TookNothing}
-use Rattle.mw_cli.specs.Answers.{Call, ComesTo, OnOrder, Asks, IsUnanswered, Answers}
+use Rattle.mw_cli.specs.Answers.{Call, ComesTo, OnOrder, Refused, Asks, IsUnanswered, Answers}
 use Rattle.mw_cli.specs.Stages.{IsContent, IsTooLong, ReachesUnbuilt}
 use Rattle.mw_cli.proofs.FileLemmas.{Files}
 use Rattle.mw_cli.proofs.VerdictLemmas.{fits, too_long}
+use Rattle.mw_cli.proofs.AnswerLemmas.{at_some}
 
 -- ---- Usage
 
@@ -102,14 +103,14 @@ run-stops-at None output status line e = cc
 run-stops-at (Some (cycle, cia)) output status line e = let same : status ≡ Unbuilt = cc in (same, (cycle, cia, refl, cc))
 
 -- with ImageTooLarge the image of a run is longer than RAM
-pub run-too-large : (host : Change HostState) (order : RunOrder) (line : List ℕ) → ComesTo host (Run order) (Refuses ImageTooLarge line) → IsTooLong host order.image
+run-too-large : (host : Change HostState) (order : RunOrder) (line : List ℕ) → ComesTo host (Run order) (Refuses ImageTooLarge line) → IsTooLong host order.image
 run-too-large host order line (contents, are, comes) = elim (long-or-so (first_of contents) _ ImageTooLarge line comes) [
   | inl (long, e) ↦ (first_of contents, first-is host.before.files order.image contents are, long)
   | inr (short, e) ↦ let (other, rest) = run-stops-at _ _ ImageTooLarge line e in cc
 ]
 
 -- and so is that of a disassembly
-pub listing-too-large : (host : Change HostState) (name line : List ℕ) → ComesTo host (Disassemble name) (Refuses ImageTooLarge line) → IsTooLong host name
+listing-too-large : (host : Change HostState) (name line : List ℕ) → ComesTo host (Disassemble name) (Refuses ImageTooLarge line) → IsTooLong host name
 listing-too-large host name line (contents, are, comes) = elim (long-or-so (first_of contents) _ ImageTooLarge line comes) [
   | inl (long, e) ↦ (first_of contents, first-is host.before.files name contents are, long)
   | inr (short, e) ↦ cc
@@ -121,46 +122,85 @@ source-refused name (Ok bytes) status line e = cc
 source-refused name (Err place) status line e = let same : status ≡ BadInput = cc in (same, (place, refl, cc))
 
 -- a source is never refused for length
-pub source-too-large : (host : Change HostState) (name line : List ℕ) → ComesTo host (Assemble name) (Refuses ImageTooLarge line) → ⊥
+source-too-large : (host : Change HostState) (name line : List ℕ) → ComesTo host (Assemble name) (Refuses ImageTooLarge line) → ⊥
 source-too-large host name line (contents, are, comes) = let (other, rest) = source-refused name _ ImageTooLarge line comes in cc
 
 -- with Unbuilt a run reaches an instruction that isn't built, and its address is told
-pub run-unbuilt : (host : Change HostState) (order : RunOrder) (line : List ℕ) → ComesTo host (Run order) (Refuses Unbuilt line) → (image : List ℕ) × (cia : ℕ) × IsContent host order.image image × (length image ≤ 16777216) × ReachesUnbuilt image order.cycles cia × (line ≡ unbuilt_line cia)
+run-unbuilt : (host : Change HostState) (order : RunOrder) (line : List ℕ) → ComesTo host (Run order) (Refuses Unbuilt line) → (image : List ℕ) × (cia : ℕ) × IsContent host order.image image × (length image ≤ 16777216) × ReachesUnbuilt image order.cycles cia × (line ≡ unbuilt_line cia)
 run-unbuilt host order line (contents, are, comes) = elim (long-or-so (first_of contents) _ Unbuilt line comes) [
   | inl (long, e) ↦ cc
   | inr (short, e) ↦ let (same, (cycle, cia, stop, told)) = run-stops-at _ _ Unbuilt line e in (first_of contents, cia, first-is host.before.files order.image contents are, short, (cycle, stop), told)
 ]
 
 -- a source or a disassembly reaches none
-pub source-unbuilt : (host : Change HostState) (name line : List ℕ) → ComesTo host (Assemble name) (Refuses Unbuilt line) → ⊥
+source-unbuilt : (host : Change HostState) (name line : List ℕ) → ComesTo host (Assemble name) (Refuses Unbuilt line) → ⊥
 source-unbuilt host name line (contents, are, comes) = let (other, rest) = source-refused name _ Unbuilt line comes in cc
 
-pub listing-unbuilt : (host : Change HostState) (name line : List ℕ) → ComesTo host (Disassemble name) (Refuses Unbuilt line) → ⊥
+listing-unbuilt : (host : Change HostState) (name line : List ℕ) → ComesTo host (Disassemble name) (Refuses Unbuilt line) → ⊥
 listing-unbuilt host name line (contents, are, comes) = elim (long-or-so (first_of contents) _ Unbuilt line comes) [ inl (long, e) ↦ cc | inr (short, e) ↦ cc ]
 
 -- with BadInput a source is refused, and its place is told
-pub source-bad : (host : Change HostState) (name line : List ℕ) → ComesTo host (Assemble name) (Refuses BadInput line) → (source : List ℕ) × (place : Place) × IsContent host name source × (assembled source ≡ Err place) × (line ≡ bad_line name place.line place.column)
+source-bad : (host : Change HostState) (name line : List ℕ) → ComesTo host (Assemble name) (Refuses BadInput line) → (source : List ℕ) × (place : Place) × IsContent host name source × (assembled source ≡ Err place) × (line ≡ bad_line name place.line place.column)
 source-bad host name line (contents, are, comes) =
     let (same, (place, e, told)) = source-refused name _ BadInput line comes in
     (first_of contents, place, first-is host.before.files name contents are, e, told)
 
 -- a run or a disassembly is no source
-pub run-bad : (host : Change HostState) (order : RunOrder) (line : List ℕ) → ComesTo host (Run order) (Refuses BadInput line) → ⊥
+run-bad : (host : Change HostState) (order : RunOrder) (line : List ℕ) → ComesTo host (Run order) (Refuses BadInput line) → ⊥
 run-bad host order line (contents, are, comes) = elim (long-or-so (first_of contents) _ BadInput line comes) [
   | inl (long, e) ↦ cc
   | inr (short, e) ↦ let (other, rest) = run-stops-at _ _ BadInput line e in cc
 ]
 
-pub listing-bad : (host : Change HostState) (name line : List ℕ) → ComesTo host (Disassemble name) (Refuses BadInput line) → ⊥
+listing-bad : (host : Change HostState) (name line : List ℕ) → ComesTo host (Disassemble name) (Refuses BadInput line) → ⊥
 listing-bad host name line (contents, are, comes) = elim (long-or-so (first_of contents) _ BadInput line comes) [ inl (long, e) ↦ cc | inr (short, e) ↦ cc ]
+
+-- ---- ImageTooLarge, Unbuilt and BadInput come only with their causes
+
+-- what an order that is refused comes to
+comes : (call : Call) (status : Status) (order : Order) → order_of call.words ≡ Some order → Refused call status → (line : List ℕ) × ComesTo call.host order (Refuses status line)
+comes call status order asked h = let (line, is, only) = at_some (order_of call.words) _ order asked h in (line, is)
+
+pub too-large : (call : Call) (order : RunOrder) → order_of call.words ≡ Some (Run order) → Answers call ImageTooLarge → IsTooLong call.host order.image
+too-large call order asked a = let (line, is) = comes call ImageTooLarge (Run order) asked a.says in run-too-large call.host order line is
+
+pub too-large-disassembly : (call : Call) (image : List ℕ) → order_of call.words ≡ Some (Disassemble image) → Answers call ImageTooLarge → IsTooLong call.host image
+too-large-disassembly call image asked a = let (line, is) = comes call ImageTooLarge (Disassemble image) asked a.says in listing-too-large call.host image line is
+
+pub too-large-source : (call : Call) (source : List ℕ) → order_of call.words ≡ Some (Assemble source) → Answers call ImageTooLarge → ⊥
+too-large-source call source asked a = let (line, is) = comes call ImageTooLarge (Assemble source) asked a.says in source-too-large call.host source line is
+
+pub unbuilt : (call : Call) (order : RunOrder) → order_of call.words ≡ Some (Run order) → Answers call Unbuilt → (image : List ℕ) × (cia : ℕ) × IsContent call.host order.image image × (length image ≤ 16777216) × ReachesUnbuilt image order.cycles cia
+unbuilt call order asked a =
+    let (line, is) = comes call Unbuilt (Run order) asked a.says in
+    let (image, cia, content, short, stop, told) = run-unbuilt call.host order line is in
+    (image, cia, content, short, stop)
+
+pub unbuilt-disassembly : (call : Call) (image : List ℕ) → order_of call.words ≡ Some (Disassemble image) → Answers call Unbuilt → ⊥
+unbuilt-disassembly call image asked a = let (line, is) = comes call Unbuilt (Disassemble image) asked a.says in listing-unbuilt call.host image line is
+
+pub unbuilt-source : (call : Call) (source : List ℕ) → order_of call.words ≡ Some (Assemble source) → Answers call Unbuilt → ⊥
+unbuilt-source call source asked a = let (line, is) = comes call Unbuilt (Assemble source) asked a.says in source-unbuilt call.host source line is
+
+pub bad-input : (call : Call) (name : List ℕ) → order_of call.words ≡ Some (Assemble name) → Answers call BadInput → (source : List ℕ) × (place : Place) × IsContent call.host name source × (assembled source ≡ Err place)
+bad-input call name asked a =
+    let (line, is) = comes call BadInput (Assemble name) asked a.says in
+    let (source, place, content, bad, told) = source-bad call.host name line is in
+    (source, place, content, bad)
+
+pub bad-run : (call : Call) (order : RunOrder) → order_of call.words ≡ Some (Run order) → Answers call BadInput → ⊥
+bad-run call order asked a = let (line, is) = comes call BadInput (Run order) asked a.says in run-bad call.host order line is
+
+pub bad-disassembly : (call : Call) (image : List ℕ) → order_of call.words ≡ Some (Disassemble image) → Answers call BadInput → ⊥
+bad-disassembly call image asked a = let (line, is) = comes call BadInput (Disassemble image) asked a.says in listing-bad call.host image line is
 
 -- ---- and always there, but for a call of the host that failed and for want of memory
 
 pub always-too-large : (call : Call) (status : Status) (order : RunOrder) (told : List ℕ → Option (List ℕ)) → Asks call (Run order) told → 16777216 < length (content_of told order.image) → Answers call status → (status ≡ ImageTooLarge) ⊎ IsUnanswered call status
 always-too-large call status order told asks long a = a.exactly (Run order) told ImageTooLarge too_large_line asks (too_long (content_of told order.image) _ long)
 
-pub always-too-large-listing : (call : Call) (status : Status) (image : List ℕ) (told : List ℕ → Option (List ℕ)) → Asks call (Disassemble image) told → 16777216 < length (content_of told image) → Answers call status → (status ≡ ImageTooLarge) ⊎ IsUnanswered call status
-always-too-large-listing call status image told asks long a = a.exactly (Disassemble image) told ImageTooLarge too_large_line asks (too_long (content_of told image) _ long)
+pub always-too-large-disassembly : (call : Call) (status : Status) (image : List ℕ) (told : List ℕ → Option (List ℕ)) → Asks call (Disassemble image) told → 16777216 < length (content_of told image) → Answers call status → (status ≡ ImageTooLarge) ⊎ IsUnanswered call status
+always-too-large-disassembly call status image told asks long a = a.exactly (Disassemble image) told ImageTooLarge too_large_line asks (too_long (content_of told image) _ long)
 
 pub always-unbuilt : (call : Call) (status : Status) (order : RunOrder) (told : List ℕ → Option (List ℕ)) (cia : ℕ) → Asks call (Run order) told → length (content_of told order.image) ≤ 16777216 → ReachesUnbuilt (content_of told order.image) order.cycles cia → Answers call status → (status ≡ Unbuilt) ⊎ IsUnanswered call status
 always-unbuilt call status order told cia asks short (cycle, stop) a = a.exactly (Run order) told Unbuilt (unbuilt_line cia) asks (fits (content_of told order.image) _ short ∙ ap (λ (o : Option (ℕ × ℕ)). unless_unbuilt o (TextOf order (content_of told order.image))) stop)
@@ -176,5 +216,5 @@ complete-run call status order told asks short built host out a = a.complete (Ru
 pub complete-source : (call : Call) (status : Status) (source : List ℕ) (told : List ℕ → Option (List ℕ)) (bytes : List ℕ) → Asks call (Assemble source) told → assembled (content_of told source) ≡ Ok bytes → ¬ (Rose call.host.before.faults call.host.after.faults) → ¬ (Rose call.out.before.faults call.out.after.faults) → Answers call status → (status ≡ Done) ⊎ (status ≡ NoMemory)
 complete-source call status source told bytes asks ok host out a = a.complete (Assemble source) told (Bytes bytes) asks (ap (unless_bad source) ok) host out
 
-pub complete-listing : (call : Call) (status : Status) (image : List ℕ) (told : List ℕ → Option (List ℕ)) → Asks call (Disassemble image) told → length (content_of told image) ≤ 16777216 → ¬ (Rose call.host.before.faults call.host.after.faults) → ¬ (Rose call.out.before.faults call.out.after.faults) → Answers call status → (status ≡ Done) ⊎ (status ≡ NoMemory)
-complete-listing call status image told asks short host out a = a.complete (Disassemble image) told (Bytes (disassembly (content_of told image))) asks (fits (content_of told image) _ short) host out
+pub complete-disassembly : (call : Call) (status : Status) (image : List ℕ) (told : List ℕ → Option (List ℕ)) → Asks call (Disassemble image) told → length (content_of told image) ≤ 16777216 → ¬ (Rose call.host.before.faults call.host.after.faults) → ¬ (Rose call.out.before.faults call.out.after.faults) → Answers call status → (status ≡ Done) ⊎ (status ≡ NoMemory)
+complete-disassembly call status image told asks short host out a = a.complete (Disassemble image) told (Bytes (disassembly (content_of told image))) asks (fits (content_of told image) _ short) host out

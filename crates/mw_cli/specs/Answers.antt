@@ -113,10 +113,16 @@ pub record Answers (call : Call) (status : Status) : Type 0 where
   -- unless memory is wanting
   pub sound : (order : Order) (told : List ℕ → Option (List ℕ)) → Asks call order told → IsTrue call.host.before.is_sound → AreThere told order → ¬ (Rose call.out.before.faults call.out.after.faults) → (status ≡ status_by (verdict_with told order)) ⊎ (status ≡ NoMemory)
 
--- how a call went through the files that its words ask for: some were opened, in order, and with Done and WriteFault all
--- of them
+-- how far a call that ends with this status goes through its files: some are opened, in order, and the others aren't
+pub record GoesFar (status : Status) (opened others : List Wanted) : Type 0 where
+  -- with Done and WriteFault it goes to the last
+  pub to_last : (status ≡ Done) ⊎ (status ≡ WriteFault) → others ≡ []
+  -- and with any other status but NoMemory at least to the first
+  pub to_first : ¬ (status ≡ NoMemory) → opened ≡ [] → others ≡ []
+
+-- the call goes through the files that its words ask for, so far as its status says
 abbrev pub GoesThrough : Call → Status → Type 0
-GoesThrough call status = (opened : List Wanted) × (others : List Wanted) × (files_by call.words ≡ opened ++ others) × Opens call.host opened × ((status ≡ Done) ⊎ (status ≡ WriteFault) → others ≡ [])
+GoesThrough call status = (opened : List Wanted) × (others : List Wanted) × (files_by call.words ≡ opened ++ others) × Opens call.host opened × GoesFar status opened others
 
 -- these are the words that were given: any, where there was no memory for them
 abbrev pub AreWords : {A B E : Type 0} → Result (Vec (String A) B) E → List (List ℕ) → Type 0

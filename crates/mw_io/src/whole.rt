@@ -9,7 +9,7 @@ use crate::sink::{Sink, SinkFault};
 use std::alloc::{AllocError, Global};
 
 /// Writes all the bytes. After an `Err` the sink has taken a front of them, and not all.
-#[tactic(auto, using(crate::proofs::Pieces::with_more_again, crate::proofs::Pieces::with_more_all, crate::proofs::Pieces::with_more_none))]
+#[tactic(auto, using(crate::proofs::Pieces::with_more_behind, crate::proofs::Pieces::with_more_all, crate::proofs::Pieces::with_more_none))]
 pub fn write_all<S: Sink>(sink: &mut S, bytes: &[u8]) -> Result<(), SinkFault>
     ensures all { OnOk result ((S.state sink.new).taken ≡ with_more (S.state sink.old).taken bytes.now) }
     ensures front { OnErr result ((k : ℕ) × (k < length bytes.now) × ((S.state sink.new).taken ≡ with_more (S.state sink.old).taken (take k bytes.now))) }
