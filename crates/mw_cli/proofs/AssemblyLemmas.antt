@@ -3,11 +3,9 @@ use Rattle.std.proofs.Common.{◌≡◌, ℕ, inl, inr, ◌+◌, ◌<◌, Bool, 
 use Rattle.std.proofs.lemmas.Bool.{lt-ltb, cases_lt}
 use Rattle.std.proofs.lemmas.List.{take_all, take-take, length-take}
 use Rattle.mw_io.specs.Outside.{content_of}
-use Rattle.mw_syntax.specs.declared.fault.What.{What}
 use Rattle.mw_syntax.specs.declared.fault.What.TheVariants.{TooLong}
 use Rattle.mw_asm.specs.declared.fault.Place.{Place}
 use Rattle.mw_asm.specs.Assembled.{assembled, both_passes, first_pass, lines_of, last_of, place_past}
-use Rattle.mw_cli.specs.Answers.{RefusesAt}
 use Rattle.mw_cli.proofs.FileLemmas.{Files}
 
 -- a source past the limit is refused there
@@ -30,9 +28,3 @@ front-gives source = elim (cases_lt 4194304 (length source)) [
 pub source-gives : (files : Files) (name bytes : List ℕ) (r : Result (List ℕ) Place) → IfSome files (λ told. bytes ≡ take (4194304 + 1) (content_of told name)) → assembled bytes ≡ r → (source : List ℕ) × IfSome files (λ told. source ≡ content_of told name) × (assembled source ≡ r)
 source-gives None name bytes r front e = (bytes, tt, e)
 source-gives (Some told) name bytes r front e = (content_of told name, refl, sym (front-gives (content_of told name)) ∙ ap assembled (sym front) ∙ e)
-
--- and where the front is refused, the file is
-pub source-refused : (files : Files) (name bytes : List ℕ) (line column : ℕ) (what : What) → IfSome files (λ told. bytes ≡ take (4194304 + 1) (content_of told name)) → assembled bytes ≡ Err (record { line = line; column = column; what = what }) → (source : List ℕ) × IfSome files (λ told. source ≡ content_of told name) × RefusesAt source line column
-source-refused files name bytes line column what front e =
-    let whole = source-gives files name bytes (Err (record { line = line; column = column; what = what })) front e in
-    (whole.0, whole.1, (what, whole.2))

@@ -3,6 +3,8 @@ pub mod WritingLemmas
 pub mod FileLemmas
 pub mod RunLemmas
 pub mod AssemblyLemmas
+pub mod VerdictLemmas
 pub mod CauseLemmas
 pub mod AnswerLemmas
+pub mod EachStatus
 pub mod ConstantStatus

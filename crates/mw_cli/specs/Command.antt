@@ -1,6 +1,7 @@
 -- What the words of the command line say.
 use Rattle.std.specs.Prelude.{ℕ, ◌+◌, ◌≤◌, ◌==◌, Bool, false, not, ◌&&◌, if◌then◌else◌, nat_le, List, [], ◌∷◌, Option, Some, None, IfSome, option_map, option_and_then, bytes_eq, codes, decimal}
 use Rattle.std.specs.List.{before_first, after_first}
+use Rattle.std.specs.Option.{option_map_or}
 use Rattle.std.specs.Str.Parse.{digits_value}
 use Rattle.mw_isa.specs.declared.access.Span.{Span}
 use Rattle.mw_cli.specs.declared.command.RunCommand.{RunCommand}
@@ -20,35 +21,16 @@ pub data Order : Type 0 where
   Assemble : List ℕ → Order
   Disassemble : List ℕ → Order
 
--- the name of the file that an order reads
-abbrev pub name_of : Order → List ℕ
-name_of (Run order) = order.image
-name_of (Assemble source) = source
-name_of (Disassemble image) = image
+-- a file that is asked for: its name, and the most bytes that it may have
+pub record Wanted : Type 0 where
+  pub name : List ℕ
+  pub most : ℕ
 
--- the most bytes that this file may have: an image as many as RAM, and a source 4 MiB
-abbrev pub most_of : Order → ℕ
-most_of (Run order) = 16777216
-most_of (Assemble source) = 4194304
-most_of (Disassemble image) = 16777216
-
--- the order is a run that has this
-abbrev pub IsRunAnd : Order → (RunOrder → Type 0) → Type 0
-IsRunAnd (Run order) P = P order
-IsRunAnd (Assemble source) P = ⊥
-IsRunAnd (Disassemble image) P = ⊥
-
--- the order is to assemble a source whose name has this
-abbrev pub IsAssembleAnd : Order → (List ℕ → Type 0) → Type 0
-IsAssembleAnd (Run order) P = ⊥
-IsAssembleAnd (Assemble source) P = P source
-IsAssembleAnd (Disassemble image) P = ⊥
-
--- the order is of an image, to run it or to disassemble it, whose name has this
-abbrev pub IsImageAnd : Order → (List ℕ → Type 0) → Type 0
-IsImageAnd (Run order) P = P order.image
-IsImageAnd (Assemble source) P = ⊥
-IsImageAnd (Disassemble image) P = P image
+-- the files that an order asks for, in their order: an image has at most as many bytes as RAM, and a source 4 MiB
+abbrev pub files_of : Order → List Wanted
+files_of (Run order) = record { name = order.image; most = 16777216 } ∷ []
+files_of (Assemble source) = record { name = source; most = 4194304 } ∷ []
+files_of (Disassemble image) = record { name = image; most = 16777216 } ∷ []
 
 -- the run that the code's object stands for
 abbrev pub run_in : RunCommand → RunOrder
@@ -110,3 +92,7 @@ order_of (verb ∷ name ∷ []) = file_by verb name
 order_of (verb ∷ image ∷ option ∷ number ∷ []) = order_by verb image option number None
 order_of (verb ∷ image ∷ option ∷ number ∷ second ∷ word ∷ []) = option_and_then (λ span. order_by verb image option number (Some span)) (dump_by second word)
 order_of words = None
+
+-- the files that the words ask for: none where they are no order
+abbrev pub files_by : List (List ℕ) → List Wanted
+files_by words = option_map_or files_of (order_of words) []

@@ -18,9 +18,9 @@ number_of Unbuilt = 8
 
 -- the status of a refusal
 abbrev pub status_of : Refusal → Status
-status_of Unreadable = ReadFault
+status_of (Unreadable name) = ReadFault
 status_of TooLarge = ImageTooLarge
 status_of (NotBuilt cia) = Unbuilt
-status_of (Bad line column) = BadInput
+status_of (Bad name line column) = BadInput
 status_of Unwritable = WriteFault
 status_of OutOfMemory = NoMemory

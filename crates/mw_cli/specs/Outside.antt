@@ -1,56 +1,57 @@
--- What a call of the program's main function was given, and what the outside shows before it and after it.
-use Rattle.std.specs.Prelude.{ℕ, ◌+◌, ◌≡◌, ◌≤◌, ◌⊎◌, Bool, List, length, take, Option, IfSome, IsTrue}
-use Rattle.mw_io.specs.Outside.{Rose, IsReadOn, content_of, with_more}
+-- What the outside shows before a call of the program's main function and after it.
+use Rattle.std.specs.Prelude.{ℕ, ◌+◌, ◌≡◌, ◌<◌, ◌≤◌, ◌⊎◌, List, map, length, take, Option, None, IfSome, IsTrue}
+use Rattle.std.specs.List.{last_or, sum_by}
+use Rattle.mw_io.specs.Outside.{HostState, SinkState, Rose, RoseBy, IsReadOn, content_of, with_more}
+use Rattle.mw_cli.specs.Command.{Wanted}
 
--- a host: its files where it tells them, whether it is sound, and its count of faults before and after
-pub record Reading : Type 0 where
-  pub files : Option (List ℕ → Option (List ℕ))
-  pub sound : Bool
-  pub faults_before : ℕ
-  pub faults_after : ℕ
+-- what a host or a sink shows, before a call and after it
+pub record Change (A : Type 0) : Type 0 where
+  pub before : A
+  pub after : A
 
--- a sink: the bytes that it took where it tells them, and its counts of faults and of wants, before and after
-pub record Writing : Type 0 where
-  pub taken_before : Option (List ℕ)
-  pub taken_after : Option (List ℕ)
-  pub faults_before : ℕ
-  pub faults_after : ℕ
-  pub wants_before : ℕ
-  pub wants_after : ℕ
+-- the change from one to the other
+abbrev pub change : {A : Type 0} → A → A → Change A
+change before after = record { before = before; after = after }
 
--- the image is the content of the file of this name, where the files are told
-abbrev pub IsImage : Reading → List ℕ → List ℕ → Type 0
-IsImage host name image = IfSome host.files (λ told. image ≡ content_of told name)
+-- what the files have, by name
+abbrev pub contents_of : (List ℕ → Option (List ℕ)) → List Wanted → List (List ℕ)
+contents_of told files = map (λ file. content_of told file.name) files
 
--- the source is the content of the file of this name, where the files are told
-abbrev pub IsSource : Reading → List ℕ → List ℕ → Type 0
-IsSource host name source = IfSome host.files (λ told. source ≡ content_of told name)
+-- the files have these contents, where the host tells its files
+abbrev pub AreContents : Change HostState → List Wanted → List (List ℕ) → Type 0
+AreContents host files contents = IfSome host.before.files (λ told. contents ≡ contents_of told files)
 
--- where a file is open, this is what is left of the one of this name: all behind at most its first bytes up to one past
--- this limit
-abbrev pub StopsReading : Option (List ℕ → Option (List ℕ)) → Bool → List ℕ → ℕ → List ℕ → Type 0
-StopsReading files opened rest most name = IsTrue opened → IfSome files (λ told. IsReadOn (most + 1) (content_of told name) rest)
+-- the most bytes that are read of a file: one more than it may have
+abbrev pub reach : Wanted → ℕ
+reach file = file.most + 1
+
+-- where a file is open, what is left of it is all of this one behind at most as many bytes as are read of it
+abbrev pub IsLeft : Change HostState → Wanted → Type 0
+IsLeft host file = IsTrue host.after.is_open → IfSome host.before.files (λ told. IsReadOn (reach file) (content_of told file.name) host.after.rest)
+
+-- the host was asked to open as many files as these, once each, gave no more bytes than are read of them, and the last
+-- of them is left as it was read
+pub record Opens (host : Change HostState) (files : List Wanted) : Type 0 where
+  pub opened : RoseBy (length files) host.before.opened host.after.opened
+  pub given : host.after.given ≤ host.before.given + sum_by reach files
+  pub left : IfSome (last_or None files) (IsLeft host)
 
 -- the sink took nothing
-abbrev pub TookNothing : Writing → Type 0
-TookNothing sink = sink.taken_after ≡ sink.taken_before
+abbrev pub TookNothing : Change SinkState → Type 0
+TookNothing sink = sink.after.taken ≡ sink.before.taken
 
 -- the sink took these bytes
-abbrev pub Took : Writing → List ℕ → Type 0
-Took sink bytes = sink.taken_after ≡ with_more sink.taken_before bytes
+abbrev pub Took : Change SinkState → List ℕ → Type 0
+Took sink bytes = sink.after.taken ≡ with_more sink.before.taken bytes
 
--- one of the sink's counts rose, and it took a front of these bytes
-abbrev pub Stopped : Writing → List ℕ → Type 0
-Stopped sink bytes = (k : ℕ) × (k ≤ length bytes) × Took sink (take k bytes) × (Rose sink.faults_before sink.faults_after ⊎ Rose sink.wants_before sink.wants_after)
+-- the sink took a front of these bytes, and not all
+abbrev pub TookFront : Change SinkState → List ℕ → Type 0
+TookFront sink bytes = (k : ℕ) × (k < length bytes) × Took sink (take k bytes)
+
+-- one of the sink's counts rose, and it took a front of these bytes, and not all
+abbrev pub Stopped : Change SinkState → List ℕ → Type 0
+Stopped sink bytes = TookFront sink bytes × (Rose sink.before.faults sink.after.faults ⊎ Rose sink.before.wants sink.after.wants)
 
 -- the sink took these bytes, or a front of them where one of its counts rose
-abbrev pub TookUnlessFault : Writing → List ℕ → Type 0
+abbrev pub TookUnlessFault : Change SinkState → List ℕ → Type 0
 TookUnlessFault sink bytes = Took sink bytes ⊎ Stopped sink bytes
-
--- a sink from what it shows before and after
-abbrev pub writing : Option (List ℕ) → Option (List ℕ) → ℕ → ℕ → ℕ → ℕ → Writing
-writing before after faults more wants others = record { taken_before = before; taken_after = after; faults_before = faults; faults_after = more; wants_before = wants; wants_after = others }
-
--- a host from what it tells, and its count before and after
-abbrev pub reading : Option (List ℕ → Option (List ℕ)) → Bool → ℕ → ℕ → Reading
-reading files sound before after = record { files = files; sound = sound; faults_before = before; faults_after = after }

@@ -1,70 +1,83 @@
--- What the parts of a run say, each of its own refusals.
-use Rattle.std.specs.Prelude.{ℕ, ◌+◌, ◌≡◌, ◌≤◌, List, length, take, Ok, IfSome}
-use Rattle.mw_io.specs.Outside.{Rose, content_of}
-use Rattle.mw_asm.specs.Assembled.{assembled}
-use Rattle.mw_asm.specs.Disassembly.{disassembly}
+-- What the parts of a call say, each of its own refusals.
+use Rattle.std.specs.Prelude.{ℕ, ◌+◌, ◌≡◌, ◌<◌, ◌⊎◌, List, length, take, Some, None, Result, Ok, Err, IfSome, IsSomeAnd, IsTrue, ⊤}
+use Rattle.mw_io.specs.Outside.{HostState, SinkState, Rose, content_of}
+use Rattle.mw_isa.specs.Unbuilt.{first_unbuilt}
+use Rattle.mw_cli.specs.declared.status.Status.{Status}
+use Rattle.mw_cli.specs.declared.status.Status.TheVariants.{Done}
 use Rattle.mw_cli.specs.declared.refusal.Refusal.{Refusal}
 use Rattle.mw_cli.specs.declared.refusal.Refusal.TheVariants.{Unreadable, Unwritable, TooLarge, Bad, OutOfMemory, NotBuilt}
-use Rattle.mw_cli.specs.Outside.{Reading, Writing, IsImage, IsSource, Took}
-use Rattle.mw_cli.specs.Answers.{IsUnread, IsTooLong, ReachesUnbuilt, IsRefusedAt}
+use Rattle.mw_cli.specs.Command.{Wanted, Order}
+use Rattle.mw_cli.specs.Verdict.{Refuses, too_large_line, unbuilt_line, bad_line}
+use Rattle.mw_cli.specs.Outside.{Change, TookNothing, TookFront}
+use Rattle.mw_cli.specs.Answers.{ComesTo, CutShort, IsUnread, unread_line, unwritten_line, no_memory_line}
+use Rattle.mw_cli.specs.Numbers.{status_of}
 
--- these are the first bytes of the file of this name up to one past this limit, where the files are told
-abbrev pub IsFront : Reading → ℕ → List ℕ → List ℕ → Type 0
-IsFront host most name bytes = IfSome host.files (λ told. bytes ≡ take (most + 1) (content_of told name))
+-- the line on err for a refusal
+abbrev pub line_of : Refusal → List ℕ
+line_of (Unreadable name) = unread_line name.now
+line_of TooLarge = too_large_line
+line_of (NotBuilt cia) = unbuilt_line cia
+line_of (Bad name line column) = bad_line name.now line column
+line_of Unwritable = unwritten_line
+line_of OutOfMemory = no_memory_line
+
+-- the status that a part of a call comes to
+abbrev pub ending : {T : Type 0} → Result T Refusal → Status
+ending (Ok value) = Done
+ending (Err refusal) = status_of refusal
+
+-- these are the bytes of the file of this name, where the host tells its files
+abbrev pub IsContent : Change HostState → List ℕ → List ℕ → Type 0
+IsContent host name bytes = IfSome host.before.files (λ told. bytes ≡ content_of told name)
+
+-- these are the first bytes of the file up to one more than it may have, where the host tells its files
+abbrev pub IsFront : Change HostState → Wanted → List ℕ → Type 0
+IsFront host file bytes = IfSome host.before.files (λ told. bytes ≡ take (file.most + 1) (content_of told file.name))
+
+-- over a sound host the file of this name isn't there
+abbrev pub IsAbsent : Change HostState → List ℕ → Type 0
+IsAbsent host name = IsTrue host.before.is_sound → IsSomeAnd host.before.files (λ told. told name ≡ None)
 
 -- why a file isn't read
-abbrev pub IsReadRefusal : Reading → List ℕ → Refusal → Type 0
-IsReadRefusal host name Unreadable = IsUnread host name
-IsReadRefusal host name TooLarge = ⊥
-IsReadRefusal host name (NotBuilt cia) = ⊥
-IsReadRefusal host name (Bad line column) = ⊥
-IsReadRefusal host name Unwritable = ⊥
-IsReadRefusal host name OutOfMemory = Unit {0}
+abbrev pub IsReadRefusal : Change HostState → List ℕ → Refusal → Type 0
+IsReadRefusal host name (Unreadable which) = (which.now ≡ name) × IsAbsent host name
+IsReadRefusal host name OutOfMemory = ⊤
+IsReadRefusal host name refusal = ⊥
 
--- why the image of this name isn't there, or its disassembly
-abbrev pub IsLoadRefusal : Reading → List ℕ → Refusal → Type 0
-IsLoadRefusal host name Unreadable = IsUnread host name
+-- the image of this name is longer than RAM
+abbrev pub IsTooLong : Change HostState → List ℕ → Type 0
+IsTooLong host name = (image : List ℕ) × IsContent host name image × (16777216 < length image)
+
+-- why an image isn't there
+abbrev pub IsLoadRefusal : Change HostState → List ℕ → Refusal → Type 0
 IsLoadRefusal host name TooLarge = IsTooLong host name
-IsLoadRefusal host name (NotBuilt cia) = ⊥
-IsLoadRefusal host name (Bad line column) = ⊥
-IsLoadRefusal host name Unwritable = ⊥
-IsLoadRefusal host name OutOfMemory = Unit {0}
+IsLoadRefusal host name refusal = IsReadRefusal host name refusal
 
--- why there is no text
+-- the first instruction that isn't built, of those that a run of the image reaches, is at this address
+abbrev pub ReachesUnbuilt : List ℕ → ℕ → ℕ → Type 0
+ReachesUnbuilt image n cia = (cycle : ℕ) × (first_unbuilt image n ≡ Some (cycle, cia))
+
+-- why there is no text of a run
 abbrev pub IsRunRefusal : List ℕ → ℕ → Refusal → Type 0
-IsRunRefusal image n Unreadable = ⊥
-IsRunRefusal image n TooLarge = ⊥
 IsRunRefusal image n (NotBuilt cia) = ReachesUnbuilt image n cia
-IsRunRefusal image n (Bad line column) = ⊥
-IsRunRefusal image n Unwritable = ⊥
-IsRunRefusal image n OutOfMemory = Unit {0}
+IsRunRefusal image n OutOfMemory = ⊤
+IsRunRefusal image n refusal = ⊥
 
--- this is the disassembly of the image of this name, which fits RAM
-abbrev pub Lists : Reading → List ℕ → List ℕ → Type 0
-Lists host name text = (image : List ℕ) × IsImage host name image × (length image ≤ 16777216) × (text ≡ disassembly image)
+-- why an order gives nothing to write: a file isn't read, memory is wanting, or the order comes to the refusal
+abbrev pub GivesNothing : Change HostState → Order → Refusal → Type 0
+GivesNothing host order (Unreadable name) = IsUnread host order name.now
+GivesNothing host order OutOfMemory = ⊤
+GivesNothing host order Unwritable = ⊥
+GivesNothing host order refusal = ComesTo host order (Refuses (status_of refusal) (line_of refusal))
 
--- these are the bytes that the source of this name gives
-abbrev pub Gives : Reading → List ℕ → List ℕ → Type 0
-Gives host name bytes = (source : List ℕ) × IsSource host name source × (assembled source ≡ Ok bytes)
+-- why a text isn't written, and what the sink took of it
+abbrev pub IsWriteRefusal : Change SinkState → List ℕ → Refusal → Type 0
+IsWriteRefusal sink text Unwritable = TookFront sink text
+IsWriteRefusal sink text OutOfMemory = Rose sink.before.wants sink.after.wants × TookFront sink text
+IsWriteRefusal sink text refusal = ⊥
 
--- why a source gives no bytes
-abbrev pub IsAssembleRefusal : Reading → List ℕ → Refusal → Type 0
-IsAssembleRefusal host name Unreadable = IsUnread host name
-IsAssembleRefusal host name TooLarge = ⊥
-IsAssembleRefusal host name (NotBuilt cia) = ⊥
-IsAssembleRefusal host name (Bad line column) = IsRefusedAt host name line column
-IsAssembleRefusal host name Unwritable = ⊥
-IsAssembleRefusal host name OutOfMemory = Unit {0}
-
--- a sink took a front of the bytes
-abbrev pub TookFront : Writing → List ℕ → Type 0
-TookFront sink bytes = (k : ℕ) × Took sink (take k bytes)
-
--- why a text isn't written
-abbrev pub IsWriteRefusal : Writing → List ℕ → Refusal → Type 0
-IsWriteRefusal sink text Unreadable = ⊥
-IsWriteRefusal sink text TooLarge = ⊥
-IsWriteRefusal sink text (NotBuilt cia) = ⊥
-IsWriteRefusal sink text (Bad line column) = ⊥
-IsWriteRefusal sink text Unwritable = Rose sink.faults_before sink.faults_after × TookFront sink text
-IsWriteRefusal sink text OutOfMemory = TookFront sink text
+-- why an order was refused, and what out took then
+abbrev pub HasCause : Change HostState → Change SinkState → Order → Refusal → Type 0
+HasCause host out order Unwritable = CutShort host out order
+HasCause host out order OutOfMemory = TookNothing out ⊎ (Rose out.before.wants out.after.wants × CutShort host out order)
+HasCause host out order refusal = GivesNothing host order refusal × TookNothing out

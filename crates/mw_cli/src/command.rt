@@ -1,5 +1,5 @@
 ghost use Rattle.std.specs.Prelude.{◌≡◌, ◌+◌, ◌≤◌, map, string_bytes, option_map, IfSome, bytes_eq, decimal};
-ghost use Rattle.mw_cli.specs.Command.{order_in, order_of, name_of, IsBounded, is_name, number_up_to, span_by, span_of, dump_by, order_by, file_by};
+ghost use Rattle.mw_cli.specs.Command.{order_in, order_of, IsBounded, is_name, number_up_to, span_by, span_of, dump_by, order_by, file_by};
 
 use mw_isa::Span;
 
@@ -38,19 +38,6 @@ pub enum Command<'a> {
         /// The name of the image's file. In an order it is not empty and doesn't begin with a minus.
         image: &'a str,
     },
-}
-
-impl<'a> Command<'a> {
-    /// The name of the file that is read.
-    pub fn name(&self) -> &'a str
-        ensures { result.now ≡ name_of (order_in self.now) }
-    {
-        match self {
-            Command::Run(command) => command.image,
-            Command::Assemble { source } => *source,
-            Command::Disassemble { image } => *image,
-        }
-    }
 }
 
 /// Whether a word can be a name: it isn't empty and doesn't begin with a minus.

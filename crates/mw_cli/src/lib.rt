@@ -5,6 +5,7 @@ mod assembly;
 mod command;
 mod disassembly;
 mod main_call;
+mod process;
 mod refusal;
 mod report;
 mod run;
@@ -12,5 +13,6 @@ mod status;
 mod transfer;
 
 pub use main_call::mw_main;
+pub use process::{mw_process, words_of};
 pub use refusal::Refusal;
 pub use status::Status;

@@ -1,25 +1,30 @@
-ghost use Rattle.std.specs.Prelude.{◌≡◌, ◌≤◌, map, string_bytes, OnOk, IfErr, IfSome, IsTrue};
-ghost use Rattle.mw_cli.specs.Command.{order_in, order_of, name_of, most_of, IsBounded};
-ghost use Rattle.mw_cli.specs.Outside.{reading, writing, StopsReading};
-ghost use Rattle.mw_cli.specs.Answers.{Written, HasCause, Says, Answers};
+ghost use Rattle.std.specs.Prelude.{◌≡◌, map, string_bytes, OnOk, IfOk, IfErr, IsTrue};
+ghost use Rattle.mw_io.specs.Outside.{Counts};
+ghost use Rattle.mw_cli.specs.declared.status.Status.TheVariants.{ReadFault};
+ghost use Rattle.mw_cli.specs.Command.{order_in, order_of, files_of, IsBounded};
+ghost use Rattle.mw_cli.specs.Outside.{change, Opens};
 ghost use Rattle.mw_cli.specs.Numbers.{status_of};
+ghost use Rattle.mw_cli.specs.Answers.{Gives, Written, Says, Faults, Answers, GoesThrough};
+ghost use Rattle.mw_cli.specs.Stages.{ending, GivesNothing, HasCause};
 
-use crate::assembly::store;
+use crate::assembly::image_of;
 use crate::command::{Command, read_words};
-use crate::disassembly::list;
+use crate::disassembly::listing_of;
 use crate::refusal::Refusal;
 use crate::report::{report, report_usage};
 use crate::run::run;
 use crate::status::Status;
+use crate::transfer::write_out;
+use mw_bits::Bytes;
 use mw_io::{Host, Sink};
 use std::alloc::Global;
 
 /// The status of a refusal.
-fn status_for(refusal: Refusal) -> Status
-    ensures { result ≡ status_of refusal }
+fn status_for(refusal: Refusal<'_>) -> Status
+    ensures { result ≡ status_of refusal.entry }
 {
     match refusal {
-        Refusal::Unreadable => Status::ReadFault,
+        Refusal::Unreadable { .. } => Status::ReadFault,
         Refusal::TooLarge => Status::ImageTooLarge,
         Refusal::NotBuilt { .. } => Status::Unbuilt,
         Refusal::Bad { .. } => Status::BadInput,
@@ -28,27 +33,50 @@ fn status_for(refusal: Refusal) -> Status
     }
 }
 
-/// Does what a command asks for. An `Err` says what failed.
-fn fulfil<H: Host, S: Sink>(
+/// What a command writes. An `Err` says why there is nothing to write.
+fn output_of<'a, H: Host>(
     alloc: Global,
-    command: &Command<'_>,
+    command: &Command<'a>,
     host: &mut H,
-    out: &mut S,
-) -> Result<(), Refusal>
+) -> Result<Bytes, Refusal<'a>>
     requires bounded { IsBounded command.now }
-    ensures written { OnOk result (Written (reading (H.files host.old) (H.is_sound host.old) (H.faults host.old) (H.faults host.new)) (writing (S.taken out.old) (S.taken out.new) (S.faults out.old) (S.faults out.new) (S.wants out.old) (S.wants out.new)) (order_in command.now)) }
-    ensures refused { IfErr result (HasCause (reading (H.files host.old) (H.is_sound host.old) (H.faults host.old) (H.faults host.new)) (writing (S.taken out.old) (S.taken out.new) (S.faults out.old) (S.faults out.new) (S.wants out.old) (S.wants out.new)) (order_in command.now)) }
-    ensures stops { StopsReading (H.files host.old) (H.is_open host.new) (H.rest host.new) (most_of (order_in command.now)) (name_of (order_in command.now)) }
-    ensures same_files { H.files host.new ≡ H.files host.old }
-    ensures later { H.faults host.old ≤ H.faults host.new }
-    ensures stays_sound { IsTrue (H.is_sound host.old) → IsTrue (H.is_sound host.new) }
-    ensures faults { S.faults out.old ≤ S.faults out.new }
-    ensures wants { S.wants out.old ≤ S.wants out.new }
+    ensures gives { IfOk result (Gives (change (H.state host.old) (H.state host.new)) (order_in command.now)) }
+    ensures refused { IfErr result (GivesNothing (change (H.state host.old) (H.state host.new)) (order_in command.now)) }
+    ensures faults { Counts (H.state host.old).faults (H.state host.new).faults (ending result ≡ ReadFault) }
+    ensures opens { Opens (change (H.state host.old) (H.state host.new)) (files_of (order_in command.now)) }
+    ensures same_files { (H.state host.new).files ≡ (H.state host.old).files }
+    ensures stays_sound { IsTrue (H.state host.old).is_sound → IsTrue (H.state host.new).is_sound }
 {
     match command {
-        Command::Run(command) => run(alloc, command, host, out),
-        Command::Assemble { source } => store(alloc, *source, host, out),
-        Command::Disassemble { image } => list(alloc, *image, host, out),
+        Command::Run(command) => run(alloc, command, host),
+        Command::Assemble { source } => image_of(alloc, *source, host),
+        Command::Disassemble { image } => listing_of(alloc, *image, host),
+    }
+}
+
+/// Does what a command asks for: writes its output to out, all at the end. An `Err` says what failed. Out took nothing
+/// before the output was whole, and after `Unwritable` or `OutOfMemory` it may have taken a front of it.
+fn fulfil<'a, H: Host, S: Sink>(
+    alloc: Global,
+    command: &Command<'a>,
+    host: &mut H,
+    out: &mut S,
+) -> Result<(), Refusal<'a>>
+    requires bounded { IsBounded command.now }
+    ensures written { OnOk result (Written (change (H.state host.old) (H.state host.new)) (change (S.state out.old) (S.state out.new)) (order_in command.now)) }
+    ensures refused { IfErr result (HasCause (change (H.state host.old) (H.state host.new)) (change (S.state out.old) (S.state out.new)) (order_in command.now)) }
+    ensures faults { Faults (change (H.state host.old) (H.state host.new)) (change (S.state out.old) (S.state out.new)) (ending result) }
+    ensures opens { Opens (change (H.state host.old) (H.state host.new)) (files_of (order_in command.now)) }
+    ensures same_files { (H.state host.new).files ≡ (H.state host.old).files }
+    ensures stays_sound { IsTrue (H.state host.old).is_sound → IsTrue (H.state host.new).is_sound }
+{
+    let output = match output_of(alloc, command, host) {
+        Ok(output) => output,
+        Err(refusal) => return Err(refusal),
+    };
+    match write_out(out, output.as_slice()) {
+        Ok(()) => Ok(()),
+        Err(refusal) => Err(refusal),
     }
 }
 
@@ -62,13 +90,19 @@ fn obey<H: Host, O: Sink, E: Sink>(
 ) -> Status
     ensures says { Says (record {
       words = map string_bytes words.now;
-      host = reading (H.files host.old) (H.is_sound host.old) (H.faults host.old) (H.faults host.new);
-      out = writing (O.taken out.old) (O.taken out.new) (O.faults out.old) (O.faults out.new) (O.wants out.old) (O.wants out.new);
-      err = writing (E.taken err.old) (E.taken err.new) (E.faults err.old) (E.faults err.new) (E.wants err.old) (E.wants err.new);
+      host = change (H.state host.old) (H.state host.new);
+      out = change (O.state out.old) (O.state out.new);
+      err = change (E.state err.old) (E.state err.new);
     }) result }
-    ensures stops { IfSome (order_of (map string_bytes words.now)) (λ order. StopsReading (H.files host.old) (H.is_open host.new) (H.rest host.new) (most_of order) (name_of order)) }
-    ensures same_files { H.files host.new ≡ H.files host.old }
-    ensures stays_sound { IsTrue (H.is_sound host.old) → IsTrue (H.is_sound host.new) }
+    ensures faults { Faults (change (H.state host.old) (H.state host.new)) (change (O.state out.old) (O.state out.new)) result }
+    ensures goes_through { GoesThrough (record {
+      words = map string_bytes words.now;
+      host = change (H.state host.old) (H.state host.new);
+      out = change (O.state out.old) (O.state out.new);
+      err = change (E.state err.old) (E.state err.new);
+    }) result }
+    ensures same_files { (H.state host.new).files ≡ (H.state host.old).files }
+    ensures stays_sound { IsTrue (H.state host.old).is_sound → IsTrue (H.state host.new).is_sound }
 {
     let Some(command) = read_words(words) else {
         report_usage(err);
@@ -77,7 +111,7 @@ fn obey<H: Host, O: Sink, E: Sink>(
     match fulfil(alloc, &command, host, out) {
         Ok(()) => Status::Done,
         Err(refusal) => {
-            report(err, command.name(), refusal);
+            report(err, refusal);
             status_for(refusal)
         }
     }
@@ -91,7 +125,7 @@ fn obey<H: Host, O: Sink, E: Sink>(
 /// writes the text of its disassembly to out. Reading stops one byte past the file's limit. `Done` leaves err as it was,
 /// and any other status writes its line there, or a front of it where a write to err fails; the status stays what it is.
 /// Out takes nothing under another status, but for `WriteFault` and `NoMemory`, which may leave a front of the text or
-/// of the image.
+/// of the image, and never all of it.
 pub fn mw_main<H: Host, O: Sink, E: Sink>(
     alloc: Global,
     words: &[String],
@@ -101,13 +135,18 @@ pub fn mw_main<H: Host, O: Sink, E: Sink>(
 ) -> Status
     ensures answers { Answers (record {
       words = map string_bytes words.now;
-      host = reading (H.files host.old) (H.is_sound host.old) (H.faults host.old) (H.faults host.new);
-      out = writing (O.taken out.old) (O.taken out.new) (O.faults out.old) (O.faults out.new) (O.wants out.old) (O.wants out.new);
-      err = writing (E.taken err.old) (E.taken err.new) (E.faults err.old) (E.faults err.new) (E.wants err.old) (E.wants err.new);
+      host = change (H.state host.old) (H.state host.new);
+      out = change (O.state out.old) (O.state out.new);
+      err = change (E.state err.old) (E.state err.new);
     }) result }
-    ensures stops { IfSome (order_of (map string_bytes words.now)) (λ order. StopsReading (H.files host.old) (H.is_open host.new) (H.rest host.new) (most_of order) (name_of order)) }
-    ensures same_files { H.files host.new ≡ H.files host.old }
-    ensures stays_sound { IsTrue (H.is_sound host.old) → IsTrue (H.is_sound host.new) }
+    ensures goes_through { GoesThrough (record {
+      words = map string_bytes words.now;
+      host = change (H.state host.old) (H.state host.new);
+      out = change (O.state out.old) (O.state out.new);
+      err = change (E.state err.old) (E.state err.new);
+    }) result }
+    ensures same_files { (H.state host.new).files ≡ (H.state host.old).files }
+    ensures stays_sound { IsTrue (H.state host.old).is_sound → IsTrue (H.state host.new).is_sound }
 {
     obey(alloc, words, host, out, err)
 }

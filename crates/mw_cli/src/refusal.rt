@@ -1,8 +1,11 @@
 /// Why what the words ask for isn't written. Each has a status and a line on err.
 #[derive(Clone, Copy, Debug, PartialEq, Eq)]
-pub enum Refusal {
+pub enum Refusal<'a> {
     /// A call of the host failed, so the file isn't read.
-    Unreadable,
+    Unreadable {
+        /// The file's name.
+        name: &'a str,
+    },
     /// The image is longer than RAM, 16,777,216 bytes.
     TooLarge,
     /// The run reaches an instruction that isn't built.
@@ -12,6 +15,8 @@ pub enum Refusal {
     },
     /// The source is refused.
     Bad {
+        /// The source's name.
+        name: &'a str,
         /// The line of the first refused place, counted from 1.
         line: u32,
         /// Its column; the line's first byte is column 1.

@@ -1,7 +1,8 @@
 ghost use Rattle.std.specs.Prelude.{◌≡◌, ◌≤◌, ◌++◌, MatchBool, codes, decimal};
-ghost use Rattle.mw_cli.specs.Outside.{writing, Took, Stopped, TookUnlessFault};
-ghost use Rattle.mw_cli.specs.Answers.{line_of, place_line};
-ghost use Rattle.mw_cli.specs.declared.refusal.Refusal.TheVariants.{Bad};
+ghost use Rattle.mw_cli.specs.Verdict.{place_line, bad_line};
+ghost use Rattle.mw_cli.specs.Outside.{change, Took, Stopped, TookUnlessFault};
+ghost use Rattle.mw_cli.specs.Answers.{usage_line};
+ghost use Rattle.mw_cli.specs.Stages.{line_of};
 
 use crate::refusal::Refusal;
 use mw_digits::hexadecimal;
@@ -9,10 +10,10 @@ use mw_io::{Sink, write_all};
 
 /// Writes a piece, and says whether the sink took it whole.
 fn write_piece<S: Sink>(sink: &mut S, piece: &[u8]) -> bool
-    ensures cases { let w = writing (S.taken sink.old) (S.taken sink.new) (S.faults sink.old) (S.faults sink.new) (S.wants sink.old) (S.wants sink.new) in
+    ensures cases { let w = change (S.state sink.old) (S.state sink.new) in
         MatchBool result (Took w piece.now) (Stopped w piece.now) }
-    ensures faults { S.faults sink.old ≤ S.faults sink.new }
-    ensures wants { S.wants sink.old ≤ S.wants sink.new }
+    ensures faults { (S.state sink.old).faults ≤ (S.state sink.new).faults }
+    ensures wants { (S.state sink.old).wants ≤ (S.state sink.new).wants }
 {
     match write_all(sink, piece) {
         Ok(()) => true,
@@ -22,10 +23,10 @@ fn write_piece<S: Sink>(sink: &mut S, piece: &[u8]) -> bool
 
 /// Writes two pieces, and says whether the sink took them whole.
 fn write_both<S: Sink>(sink: &mut S, first: &[u8], second: &[u8]) -> bool
-    ensures cases { let w = writing (S.taken sink.old) (S.taken sink.new) (S.faults sink.old) (S.faults sink.new) (S.wants sink.old) (S.wants sink.new) in
+    ensures cases { let w = change (S.state sink.old) (S.state sink.new) in
         MatchBool result (Took w (first.now ++ second.now)) (Stopped w (first.now ++ second.now)) }
-    ensures faults { S.faults sink.old ≤ S.faults sink.new }
-    ensures wants { S.wants sink.old ≤ S.wants sink.new }
+    ensures faults { (S.state sink.old).faults ≤ (S.state sink.new).faults }
+    ensures wants { (S.state sink.old).wants ≤ (S.state sink.new).wants }
 {
     if write_piece(sink, first) {
         write_piece(sink, second)
@@ -36,10 +37,10 @@ fn write_both<S: Sink>(sink: &mut S, first: &[u8], second: &[u8]) -> bool
 
 /// Writes three pieces, and says whether the sink took them whole.
 fn write_three<S: Sink>(sink: &mut S, first: &[u8], second: &[u8], third: &[u8]) -> bool
-    ensures cases { let w = writing (S.taken sink.old) (S.taken sink.new) (S.faults sink.old) (S.faults sink.new) (S.wants sink.old) (S.wants sink.new) in
+    ensures cases { let w = change (S.state sink.old) (S.state sink.new) in
         MatchBool result (Took w (first.now ++ second.now ++ third.now)) (Stopped w (first.now ++ second.now ++ third.now)) }
-    ensures faults { S.faults sink.old ≤ S.faults sink.new }
-    ensures wants { S.wants sink.old ≤ S.wants sink.new }
+    ensures faults { (S.state sink.old).faults ≤ (S.state sink.new).faults }
+    ensures wants { (S.state sink.old).wants ≤ (S.state sink.new).wants }
 {
     if write_both(sink, first, second) {
         write_piece(sink, third)
@@ -50,20 +51,20 @@ fn write_three<S: Sink>(sink: &mut S, first: &[u8], second: &[u8], third: &[u8])
 
 /// Writes a number in decimal and a piece, and says whether the sink took them whole.
 fn write_number<S: Sink>(sink: &mut S, number: u32, piece: &[u8]) -> bool
-    ensures cases { let w = writing (S.taken sink.old) (S.taken sink.new) (S.faults sink.old) (S.faults sink.new) (S.wants sink.old) (S.wants sink.new) in
+    ensures cases { let w = change (S.state sink.old) (S.state sink.new) in
         MatchBool result (Took w (decimal number ++ piece.now)) (Stopped w (decimal number ++ piece.now)) }
-    ensures faults { S.faults sink.old ≤ S.faults sink.new }
-    ensures wants { S.wants sink.old ≤ S.wants sink.new }
+    ensures faults { (S.state sink.old).faults ≤ (S.state sink.new).faults }
+    ensures wants { (S.state sink.old).wants ≤ (S.state sink.new).wants }
 {
     write_both(sink, itoa::Buffer::new().format(number).as_bytes(), piece)
 }
 
 /// Writes a line and a column, up to the end of the line on err, and says whether the sink took them whole.
 fn write_place<S: Sink>(sink: &mut S, line: u32, column: u32) -> bool
-    ensures cases { let w = writing (S.taken sink.old) (S.taken sink.new) (S.faults sink.old) (S.faults sink.new) (S.wants sink.old) (S.wants sink.new) in
+    ensures cases { let w = change (S.state sink.old) (S.state sink.new) in
         MatchBool result (Took w (place_line line column)) (Stopped w (place_line line column)) }
-    ensures faults { S.faults sink.old ≤ S.faults sink.new }
-    ensures wants { S.wants sink.old ≤ S.wants sink.new }
+    ensures faults { (S.state sink.old).faults ≤ (S.state sink.new).faults }
+    ensures wants { (S.state sink.old).wants ≤ (S.state sink.new).wants }
 {
     if write_number(sink, line, b":") {
         write_number(sink, column, b": bad input\n")
@@ -74,27 +75,27 @@ fn write_place<S: Sink>(sink: &mut S, line: u32, column: u32) -> bool
 
 /// Writes one piece, as far as the sink takes it.
 fn write_one<S: Sink>(sink: &mut S, piece: &[u8])
-    ensures took { TookUnlessFault (writing (S.taken sink.old) (S.taken sink.new) (S.faults sink.old) (S.faults sink.new) (S.wants sink.old) (S.wants sink.new)) piece.now }
-    ensures faults { S.faults sink.old ≤ S.faults sink.new }
-    ensures wants { S.wants sink.old ≤ S.wants sink.new }
+    ensures took { TookUnlessFault (change (S.state sink.old) (S.state sink.new)) piece.now }
+    ensures faults { (S.state sink.old).faults ≤ (S.state sink.new).faults }
+    ensures wants { (S.state sink.old).wants ≤ (S.state sink.new).wants }
 {
     write_piece(sink, piece);
 }
 
 /// Writes to err the line `mw: usage`. Where a write fails, err keeps a front of the line.
 pub fn report_usage<S: Sink>(err: &mut S)
-    ensures took { TookUnlessFault (writing (S.taken err.old) (S.taken err.new) (S.faults err.old) (S.faults err.new) (S.wants err.old) (S.wants err.new)) (codes "mw: usage\n") }
-    ensures faults { S.faults err.old ≤ S.faults err.new }
-    ensures wants { S.wants err.old ≤ S.wants err.new }
+    ensures took { TookUnlessFault (change (S.state err.old) (S.state err.new)) usage_line }
+    ensures faults { (S.state err.old).faults ≤ (S.state err.new).faults }
+    ensures wants { (S.state err.old).wants ≤ (S.state err.new).wants }
 {
     write_one(err, b"mw: usage\n");
 }
 
 /// Writes to err the line of a refused source: its name and the refused place, as far as the sink takes it.
 fn report_bad<S: Sink>(err: &mut S, name: &str, line: u32, column: u32)
-    ensures took { TookUnlessFault (writing (S.taken err.old) (S.taken err.new) (S.faults err.old) (S.faults err.new) (S.wants err.old) (S.wants err.new)) (line_of name.now (Bad line column)) }
-    ensures faults { S.faults err.old ≤ S.faults err.new }
-    ensures wants { S.wants err.old ≤ S.wants err.new }
+    ensures took { TookUnlessFault (change (S.state err.old) (S.state err.new)) (bad_line name.now line column) }
+    ensures faults { (S.state err.old).faults ≤ (S.state err.new).faults }
+    ensures wants { (S.state err.old).wants ≤ (S.state err.new).wants }
 {
     if write_three(err, b"mw: ", name.as_bytes(), b":") {
         write_place(err, line, column);
@@ -103,22 +104,27 @@ fn report_bad<S: Sink>(err: &mut S, name: &str, line: u32, column: u32)
 
 /// Writes to err three pieces of a line, as far as the sink takes them.
 fn report_three<S: Sink>(err: &mut S, first: &[u8], second: &[u8], third: &[u8])
-    ensures took { TookUnlessFault (writing (S.taken err.old) (S.taken err.new) (S.faults err.old) (S.faults err.new) (S.wants err.old) (S.wants err.new)) (first.now ++ second.now ++ third.now) }
-    ensures faults { S.faults err.old ≤ S.faults err.new }
-    ensures wants { S.wants err.old ≤ S.wants err.new }
+    ensures took { TookUnlessFault (change (S.state err.old) (S.state err.new)) (first.now ++ second.now ++ third.now) }
+    ensures faults { (S.state err.old).faults ≤ (S.state err.new).faults }
+    ensures wants { (S.state err.old).wants ≤ (S.state err.new).wants }
 {
     write_three(err, first, second, third);
 }
 
 /// Writes to err the line of a refusal: its cause, with the file's name, the refused place or the instruction's address
 /// where it has one. Where a write fails, err keeps a front of the line.
-pub fn report<S: Sink>(err: &mut S, name: &str, refusal: Refusal)
-    ensures took { TookUnlessFault (writing (S.taken err.old) (S.taken err.new) (S.faults err.old) (S.faults err.new) (S.wants err.old) (S.wants err.new)) (line_of name.now refusal) }
-    ensures faults { S.faults err.old ≤ S.faults err.new }
-    ensures wants { S.wants err.old ≤ S.wants err.new }
+pub fn report<S: Sink>(err: &mut S, refusal: Refusal<'_>)
+    ensures took { TookUnlessFault (change (S.state err.old) (S.state err.new)) (line_of refusal.entry) }
+    ensures faults { (S.state err.old).faults ≤ (S.state err.new).faults }
+    ensures wants { (S.state err.old).wants ≤ (S.state err.new).wants }
 {
     match refusal {
-        Refusal::Unreadable => report_three(err, b"mw: cannot read ", name.as_bytes(), b"\n"),
+        Refusal::Unreadable { name } => report_three(
+            err,
+            b"mw: cannot read ",
+            name.as_bytes(),
+            b"\n",
+        ),
         Refusal::TooLarge => write_one(err, b"mw: image exceeds 16777216 bytes\n"),
         Refusal::NotBuilt { cia } => report_three(
             err,
@@ -126,7 +132,7 @@ pub fn report<S: Sink>(err: &mut S, name: &str, refusal: Refusal)
             &hexadecimal(cia),
             b"\n",
         ),
-        Refusal::Bad { line, column } => report_bad(err, name, line, column),
+        Refusal::Bad { name, line, column } => report_bad(err, name, line, column),
         Refusal::Unwritable => write_one(err, b"mw: cannot write\n"),
         Refusal::OutOfMemory => write_one(err, b"mw: out of memory\n"),
     }

@@ -1,6 +1,8 @@
-ghost use Rattle.std.specs.Prelude.{◌≡◌, ◌+◌, ◌^◌, ◌<◌, ◌≤◌, length, OnOk, IfOk, IfErr, IsTrue, vec_len};
-ghost use Rattle.mw_cli.specs.Outside.{reading, writing, IsImage, StopsReading, Took};
-ghost use Rattle.mw_cli.specs.Stages.{IsFront, IsReadRefusal, IsLoadRefusal, IsWriteRefusal};
+ghost use Rattle.std.specs.Prelude.{◌≡◌, ◌+◌, ◌^◌, ◌<◌, ◌≤◌, [], ◌∷◌, length, OnOk, IfOk, IfErr, IsTrue, vec_len};
+ghost use Rattle.mw_io.specs.Outside.{Counts};
+ghost use Rattle.mw_cli.specs.declared.status.Status.TheVariants.{ReadFault as ReadStatus, WriteFault, NoMemory};
+ghost use Rattle.mw_cli.specs.Outside.{change, Opens, Took};
+ghost use Rattle.mw_cli.specs.Stages.{ending, IsContent, IsFront, IsReadRefusal, IsLoadRefusal, IsWriteRefusal};
 
 use crate::refusal::Refusal;
 use mw_io::{Host, ReadFault, Sink, SinkFault, read_up_to, write_all};
@@ -10,40 +12,44 @@ use std::alloc::Global;
 const MOST_IMAGE_BYTES: usize = 16777216;
 
 /// Reads the file of a name to its end, or to one byte past a limit where it goes on so long.
-pub fn read_file<H: Host>(
+pub fn read_file<'a, H: Host>(
     alloc: Global,
-    name: &str,
+    name: &'a str,
     host: &mut H,
     most: usize,
-) -> Result<Vec<u8>, Refusal>
+) -> Result<Vec<u8>, Refusal<'a>>
     requires { most + 1 < 2 ^ 64 }
-    ensures front { IfOk result (λ bytes. IsFront (reading (H.files host.old) (H.is_sound host.old) (H.faults host.old) (H.faults host.new)) most name.now bytes.items) }
+    ensures front { IfOk result (λ bytes. IsFront (change (H.state host.old) (H.state host.new)) (record { name = name.now; most = most }) bytes.items) }
     ensures within { IfOk result (λ bytes. vec_len bytes ≤ most + 1) }
-    ensures refused { IfErr result (IsReadRefusal (reading (H.files host.old) (H.is_sound host.old) (H.faults host.old) (H.faults host.new)) name.now) }
-    ensures stops { StopsReading (H.files host.old) (H.is_open host.new) (H.rest host.new) most name.now }
-    ensures same_files { H.files host.new ≡ H.files host.old }
-    ensures later { H.faults host.old ≤ H.faults host.new }
-    ensures stays_sound { IsTrue (H.is_sound host.old) → IsTrue (H.is_sound host.new) }
+    ensures refused { IfErr result (IsReadRefusal (change (H.state host.old) (H.state host.new)) name.now) }
+    ensures faults { Counts (H.state host.old).faults (H.state host.new).faults (ending result ≡ ReadStatus) }
+    ensures opens { Opens (change (H.state host.old) (H.state host.new)) (record { name = name.now; most = most } ∷ []) }
+    ensures same_files { (H.state host.new).files ≡ (H.state host.old).files }
+    ensures stays_sound { IsTrue (H.state host.old).is_sound → IsTrue (H.state host.new).is_sound }
 {
     let Ok(()) = host.open(name) else {
-        return Err(Refusal::Unreadable);
+        return Err(Refusal::Unreadable { name });
     };
     match read_up_to(alloc, host, most) {
         Ok(bytes) => Ok(bytes),
-        Err(ReadFault::Failed) => Err(Refusal::Unreadable),
+        Err(ReadFault::Failed) => Err(Refusal::Unreadable { name }),
         Err(ReadFault::NoMemory) => Err(Refusal::OutOfMemory),
     }
 }
 
 /// Reads the image of a name, if it isn't longer than RAM.
-pub fn read_image<H: Host>(alloc: Global, name: &str, host: &mut H) -> Result<Vec<u8>, Refusal>
-    ensures image { IfOk result (λ bytes. IsImage (reading (H.files host.old) (H.is_sound host.old) (H.faults host.old) (H.faults host.new)) name.now bytes.items) }
+pub fn read_image<'a, H: Host>(
+    alloc: Global,
+    name: &'a str,
+    host: &mut H,
+) -> Result<Vec<u8>, Refusal<'a>>
+    ensures image { IfOk result (λ bytes. IsContent (change (H.state host.old) (H.state host.new)) name.now bytes.items) }
     ensures fits { IfOk result (λ bytes. length bytes.items ≤ 16777216) }
-    ensures refused { IfErr result (IsLoadRefusal (reading (H.files host.old) (H.is_sound host.old) (H.faults host.old) (H.faults host.new)) name.now) }
-    ensures stops { StopsReading (H.files host.old) (H.is_open host.new) (H.rest host.new) 16777216 name.now }
-    ensures same_files { H.files host.new ≡ H.files host.old }
-    ensures later { H.faults host.old ≤ H.faults host.new }
-    ensures stays_sound { IsTrue (H.is_sound host.old) → IsTrue (H.is_sound host.new) }
+    ensures refused { IfErr result (IsLoadRefusal (change (H.state host.old) (H.state host.new)) name.now) }
+    ensures faults { Counts (H.state host.old).faults (H.state host.new).faults (ending result ≡ ReadStatus) }
+    ensures opens { Opens (change (H.state host.old) (H.state host.new)) (record { name = name.now; most = 16777216 } ∷ []) }
+    ensures same_files { (H.state host.new).files ≡ (H.state host.old).files }
+    ensures stays_sound { IsTrue (H.state host.old).is_sound → IsTrue (H.state host.new).is_sound }
 {
     let bytes = match read_file(alloc, name, host, MOST_IMAGE_BYTES) {
         Ok(bytes) => bytes,
@@ -55,12 +61,12 @@ pub fn read_image<H: Host>(alloc: Global, name: &str, host: &mut H) -> Result<Ve
     Ok(bytes)
 }
 
-/// Writes all the bytes.
-pub fn write_out<S: Sink>(out: &mut S, bytes: &[u8]) -> Result<(), Refusal>
-    ensures took { OnOk result (Took (writing (S.taken out.old) (S.taken out.new) (S.faults out.old) (S.faults out.new) (S.wants out.old) (S.wants out.new)) bytes.now) }
-    ensures refused { IfErr result (IsWriteRefusal (writing (S.taken out.old) (S.taken out.new) (S.faults out.old) (S.faults out.new) (S.wants out.old) (S.wants out.new)) bytes.now) }
-    ensures faults { S.faults out.old ≤ S.faults out.new }
-    ensures wants { S.wants out.old ≤ S.wants out.new }
+/// Writes all the bytes. After an `Err` out has taken a front of them, and not all.
+pub fn write_out<'a, S: Sink>(out: &mut S, bytes: &[u8]) -> Result<(), Refusal<'a>>
+    ensures took { OnOk result (Took (change (S.state out.old) (S.state out.new)) bytes.now) }
+    ensures refused { IfErr result (IsWriteRefusal (change (S.state out.old) (S.state out.new)) bytes.now) }
+    ensures faults { Counts (S.state out.old).faults (S.state out.new).faults (ending result ≡ WriteFault) }
+    ensures wants { Counts (S.state out.old).wants (S.state out.new).wants (ending result ≡ NoMemory) }
 {
     match write_all(out, bytes) {
         Ok(()) => Ok(()),

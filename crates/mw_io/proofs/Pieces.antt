@@ -1,13 +1,18 @@
 -- Pieces that follow one another.
-use Rattle.std.proofs.Common.{◌≡◌, ℕ, ◌+◌, ◌≤◌, ◌↔◌, List, [], ◌++◌, length, take, drop, Option, Some, None, OnSome, refl, subst, ap, sym, ◌∙◌, append_assoc}
+use Rattle.std.proofs.Common.{◌≡◌, ℕ, ◌+◌, ◌-◌, ◌≤◌, ◌↔◌, List, [], ◌++◌, length, take, drop, Option, Some, None, OnSome, Ok, IsErrOf, refl, subst, ap, sym, ◌∙◌, append_assoc}
 use Rattle.std.proofs.Math.Seq.{take-add, take-append_seam}
-use Rattle.std.proofs.lemmas.List.{take-append-drop, append-nil, take_all, drop-drop}
-use Rattle.mw_io.specs.Outside.{with_more}
+use Rattle.std.proofs.lemmas.List.{take-append-drop, append-nil, take_all, take_rest, drop-drop}
+use Rattle.mw_io.specs.Outside.{Counts, with_more}
 
 pub with_more_again : (taken : Option (List ℕ)) (bytes : List ℕ) (i n : ℕ)
     → with_more (with_more taken (take i bytes)) (take n (drop i bytes)) ≡ with_more taken (take (i + n) bytes)
 with_more_again None bytes i n = refl
 with_more_again (Some t) bytes i n = rw (take-add i n bytes) (ap Some (append_assoc t (take i bytes) (take n (drop i bytes))))
+
+-- the same of a piece of what is left, as a slice of the bytes from a place on
+pub with_more_behind : (taken : Option (List ℕ)) (bytes : List ℕ) (i n : ℕ)
+    → with_more (with_more taken (take i bytes)) (take n (take (length bytes - i) (drop i bytes))) ≡ with_more taken (take (i + n) bytes)
+with_more_behind taken bytes i n = rw take_rest (with_more_again taken bytes i n)
 
 pub with_more_all : (taken : Option (List ℕ)) (bytes : List ℕ) (i : ℕ) → length bytes ≤ i → with_more taken (take i bytes) ≡ with_more taken bytes
 with_more_all taken bytes i h = rw (take_all i bytes h) refl
@@ -15,6 +20,10 @@ with_more_all taken bytes i h = rw (take_all i bytes h) refl
 pub with_more_none : (taken : Option (List ℕ)) → taken ≡ with_more taken []
 with_more_none None = refl
 with_more_none (Some t) = ap Some (sym (append-nil t))
+
+-- a call that succeeds leaves the count of a cause as it was
+pub Counts-ok : {T E : Type 0} (x : T) (e : E) (before after : ℕ) → Counts before after (IsErrOf (Ok x) e) → after ≡ before
+Counts-ok x e before after counts = counts.stays (λ (is : IsErrOf (Ok x) e). cc)
 
 -- one more piece is moved from what is left to what was read
 pub joined_again : (read left whole : List ℕ) (n : ℕ) → read ++ left ≡ whole → (read ++ take n left) ++ drop n left ≡ whole

@@ -1,6 +1,7 @@
 -- What is known of the host and the sink whose calls fail where a test says so.
-use Rattle.std.specs.Prelude.{ℕ, ◌==◌, Bool, true, false, List, [], ◌∷◌, Option}
+use Rattle.std.specs.Prelude.{ℕ, ◌==◌, Bool, true, false, List, [], ◌∷◌, Option, Some}
 use Rattle.std.specs.List.{list_any}
+use Rattle.mw_io.specs.Outside.{HostState, SinkState}
 use Rattle.mw_io.specs.Shelf.{shelf_files, shelf_is_open, shelf_rest}
 use Rattle.mw_io.specs.Sure.{sure_taken, sure_wants}
 use Rattle.mw_io.specs.declared.memory.MemHost.{MemHost}
@@ -39,6 +40,18 @@ host_calls host = host.plan.calls
 abbrev pub host_faults : MemHost → ℕ
 host_faults host = host.faults
 
+-- this is how often the host was asked to open a file
+abbrev pub host_opened : MemHost → ℕ
+host_opened host = host.tally.opened
+
+-- this is how many bytes its reads have given
+abbrev pub host_given : MemHost → ℕ
+host_given host = host.tally.given
+
+-- this is what the host shows of itself; it is sound where no call is to fail
+abbrev pub host_state : MemHost → HostState
+host_state host = record { files = Some (host_files host); is_sound = is_clear (host_to_fail host); is_open = host_is_open host; rest = host_rest host; faults = host_faults host; opened = host_opened host; given = host_given host }
+
 -- these are the bytes that the sink has taken
 abbrev pub sink_taken : MemSink → List ℕ
 sink_taken sink = sure_taken sink.kept
@@ -58,3 +71,7 @@ sink_faults sink = sink.faults
 -- this is how often the sink has wanted for memory
 abbrev pub sink_wants : MemSink → ℕ
 sink_wants sink = sure_wants sink.kept
+
+-- this is what the sink shows of itself
+abbrev pub sink_state : MemSink → SinkState
+sink_state sink = record { taken = Some (sink_taken sink); faults = sink_faults sink; wants = sink_wants sink }

@@ -1,15 +1,46 @@
--- What the calls of a host and of a sink do, in the words of their clauses.
-use Rattle.std.specs.Prelude.{◌≡◌, ℕ, ◌+◌, ◌-◌, ◌^◌, ◌≤◌, min, List, [], ◌++◌, drop, Option, unwrap_or}
+-- What a host and a sink show of themselves, and what their calls do, in the words of their clauses.
+use Rattle.std.specs.Prelude.{◌≡◌, ℕ, ◌+◌, ◌-◌, ◌^◌, ◌≤◌, Bool, min, List, [], ◌++◌, drop, Option, unwrap_or}
 use Rattle.std.specs.Option.{option_map}
+
+-- this is what a host shows of itself
+pub record HostState : Type 0 where
+  -- its files by the bytes of their names, where it tells them
+  pub files : Option (List ℕ → Option (List ℕ))
+  -- whether it tells them, and fails only where it opens a name that is not among them
+  pub is_sound : Bool
+  -- whether a file is open
+  pub is_open : Bool
+  -- what is left of that file, where the files are told
+  pub rest : List ℕ
+  -- how often a call has failed, up to 2^64 - 1
+  pub faults : ℕ
+  -- how often it was asked to open a file, up to 2^64 - 1
+  pub opened : ℕ
+  -- how many bytes its reads have given, up to 2^64 - 1
+  pub given : ℕ
+
+-- this is what a sink shows of itself
+pub record SinkState : Type 0 where
+  -- the bytes taken so far, where it tells them
+  pub taken : Option (List ℕ)
+  -- how often a call has failed, up to 2^64 - 1
+  pub faults : ℕ
+  -- how often it has wanted for memory, up to 2^64 - 1
+  pub wants : ℕ
 
 -- this is what a count did where it rose: it is greater than before, or it stands at its last value
 abbrev pub Rose : ℕ → ℕ → Type 0
 Rose before after = min (before + 1) (2 ^ 64 - 1) ≤ after
 
--- this is what a call does to the count of a cause: it doesn't fall, and where the cause came it rose
+-- this is what a count did where it rose by so many: by no more, and by no fewer unless it stands at its last value
+abbrev pub RoseBy : ℕ → ℕ → ℕ → Type 0
+RoseBy more before after = (after ≤ before + more) × (min (before + more) (2 ^ 64 - 1) ≤ after)
+
+-- this is what a call does to the count of a cause: it rises where the cause came, and stays where it didn't
 pub record Counts (before after : ℕ) (came : Type 0) : Type 0 where
   pub later : before ≤ after
   pub rose : came → Rose before after
+  pub stays : ¬ came → after ≡ before
 
 -- this is what is read from the file of this name: nothing where there is no such file
 abbrev pub content_of : (List ℕ → Option (List ℕ)) → List ℕ → List ℕ

@@ -8,6 +8,7 @@ mod real;
 mod shelf;
 mod sink;
 mod sure;
+mod tally;
 mod whole;
 
 pub use host::{Host, HostFailed};

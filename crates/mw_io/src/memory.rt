@@ -1,13 +1,15 @@
 // A host and a sink in memory whose calls fail where a test says so.
 ghost use Rattle.std.specs.Prelude.{◌≡◌, ◌≢◌, ◌+◌, ◌-◌, ◌^◌, ◌<◌, ◌≤◌, ◌↔◌, ◌||◌, min, ℕ, List, [], ◌∷◌, ◌++◌, Some, None, false, length, take, drop, is_ok, is_err, is_none, IsTrue, IsOk, IsErr, IsErrOf, OnOk, OnErr, IfOk};
+ghost use Rattle.std.specs.Result.{result_unwrap_or};
 ghost use Rattle.mw_io.specs.declared.sink.SinkFault.TheVariants.{Failed, NoMemory};
-ghost use Rattle.mw_io.specs.Outside.{Counts, content_of};
+ghost use Rattle.mw_io.specs.Outside.{Counts, RoseBy, content_of};
 
 use crate::host::{Host, HostFailed};
 use crate::plan::Plan;
 use crate::shelf::Shelf;
 use crate::sink::{Sink, SinkFault};
 use crate::sure::SureSink;
+use crate::tally::Tally;
 use std::alloc::{AllocError, Global};
 
 /// Files in memory. A call whose number is in a list fails, and so does the opening of a name that is not among the files.
@@ -17,10 +19,11 @@ pub struct MemHost {
     shelf: Shelf,
     plan: Plan,
     faults: u64,
+    tally: Tally,
 }
 
 impl MemHost {
-    ghost use Rattle.mw_io.specs.Memory.{host_files, host_is_open, host_to_fail, host_calls, host_faults};
+    ghost use Rattle.mw_io.specs.Memory.{host_files, host_is_open, host_to_fail, host_calls, host_faults, host_opened, host_given};
 
     /// A host with no files, of which no call is to fail.
     pub fn new(alloc: Global) -> Self
@@ -29,11 +32,14 @@ impl MemHost {
         ensures to_fail { host_to_fail result ≡ [] }
         ensures calls { host_calls result ≡ 0 }
         ensures faults { host_faults result ≡ 0 }
+        ensures opened { host_opened result ≡ 0 }
+        ensures given { host_given result ≡ 0 }
     {
         MemHost {
             shelf: Shelf::new(alloc),
             plan: Plan::new(alloc),
             faults: 0,
+            tally: Tally::new(),
         }
     }
 
@@ -56,7 +62,7 @@ impl MemHost {
         ensures ok { OnOk result (host_to_fail self.new ≡ host_to_fail self.old ++ call ∷ []) }
         ensures err { OnErr result (host_to_fail self.new ≡ host_to_fail self.old) }
         ensures files { host_files self.new ≡ host_files self.old }
-        ensures opened { host_is_open self.new ≡ host_is_open self.old }
+        ensures is_open { host_is_open self.new ≡ host_is_open self.old }
         ensures calls { host_calls self.new ≡ host_calls self.old }
         ensures faults { host_faults self.new ≡ host_faults self.old }
     {
@@ -65,33 +71,27 @@ impl MemHost {
 }
 
 impl Host for MemHost {
-    ghost use Rattle.std.specs.Prelude.{ℕ, Some, refl};
-    ghost use Rattle.mw_io.specs.Memory.{host_files, host_is_open, host_rest, host_to_fail, host_calls, host_faults, is_clear, is_due};
+    ghost use Rattle.std.specs.Prelude.{ℕ, refl};
+    ghost use Rattle.mw_io.specs.Memory.{host_files, host_is_open, host_rest, host_to_fail, host_calls, host_faults, host_opened, host_given, host_state, is_clear, is_due};
 
-    ghost files = { λ h. Some (host_files h) };
-
-    ghost is_open = { host_is_open };
-
-    ghost rest = { host_rest };
-
-    ghost faults = { host_faults };
-
-    ghost is_sound = { λ h. is_clear (host_to_fail h) };
+    ghost state = { host_state };
 
     ghost tells = { λ h sound. refl };
 
     fn open(&mut self, name: &str) -> Result<(), HostFailed>
-        ensures opened { host_is_open self.new ≡ is_ok result }
+        ensures is_open { host_is_open self.new ≡ is_ok result }
         ensures start { OnOk result (host_rest self.new ≡ content_of (host_files self.old) name.now) }
         ensures same_files { host_files self.new ≡ host_files self.old }
         ensures cause { Counts (host_faults self.old) (host_faults self.new) (IsErr result) }
         ensures stays_sound { IsTrue (is_clear (host_to_fail self.old)) → IsTrue (is_clear (host_to_fail self.new)) }
         ensures absent { IsTrue (is_clear (host_to_fail self.old)) → OnErr result (host_files self.old name.now ≡ None) }
         ensures fails { is_err result ≡ (is_due (host_to_fail self.old) (host_calls self.old) || is_none (host_files self.old name.now)) }
-        ensures fine { OnOk result (host_faults self.new ≡ host_faults self.old) }
         ensures to_fail { host_to_fail self.new ≡ host_to_fail self.old }
         ensures calls { host_calls self.new ≡ min (host_calls self.old + 1) (2 ^ 64 - 1) }
+        ensures opened { RoseBy 1 (host_opened self.old) (host_opened self.new) }
+        ensures given { host_given self.new ≡ host_given self.old }
     {
+        self.tally.count_open();
         if !self.plan.count() && self.shelf.open(name.as_bytes()) {
             Ok(())
         } else {
@@ -115,15 +115,18 @@ impl Host for MemHost {
         ensures stays_sound { IsTrue (is_clear (host_to_fail self.old)) → IsTrue (is_clear (host_to_fail self.new)) }
         ensures sure { IsTrue (is_clear (host_to_fail self.old)) → IsOk result }
         ensures fails { is_err result ≡ is_due (host_to_fail self.old) (host_calls self.old) }
-        ensures fine { OnOk result (host_faults self.new ≡ host_faults self.old) }
         ensures to_fail { host_to_fail self.new ≡ host_to_fail self.old }
         ensures calls { host_calls self.new ≡ min (host_calls self.old + 1) (2 ^ 64 - 1) }
+        ensures opened { host_opened self.new ≡ host_opened self.old }
+        ensures given { RoseBy (result_unwrap_or result 0) (host_given self.old) (host_given self.new) }
     {
         if self.plan.count() {
             self.faults = self.faults.saturating_add(1);
             return Err(HostFailed);
         }
-        Ok(self.shelf.read(buf))
+        let count = self.shelf.read(buf);
+        self.tally.count_bytes(count);
+        Ok(count)
     }
 }
 
@@ -174,14 +177,9 @@ impl MemSink {
 }
 
 impl Sink for MemSink {
-    ghost use Rattle.std.specs.Prelude.{ℕ, Some};
-    ghost use Rattle.mw_io.specs.Memory.{sink_taken, sink_to_fail, sink_calls, sink_faults, sink_wants, is_due};
+    ghost use Rattle.mw_io.specs.Memory.{sink_taken, sink_to_fail, sink_calls, sink_faults, sink_wants, sink_state, is_due};
 
-    ghost taken = { λ s. Some (sink_taken s) };
-
-    ghost faults = { sink_faults };
-
-    ghost wants = { sink_wants };
+    ghost state = { sink_state };
 
     fn write(&mut self, piece: &[u8]) -> Result<usize, SinkFault>
         requires { 0 < length piece.now }
@@ -192,7 +190,6 @@ impl Sink for MemSink {
         ensures fault { Counts (sink_faults self.old) (sink_faults self.new) (IsErrOf result Failed) }
         ensures want { Counts (sink_wants self.old) (sink_wants self.new) (IsErrOf result NoMemory) }
         ensures fails { IsErrOf result Failed ↔ IsTrue (is_due (sink_to_fail self.old) (sink_calls self.old)) }
-        ensures fine { OnOk result (sink_faults self.new ≡ sink_faults self.old) }
         ensures to_fail { sink_to_fail self.new ≡ sink_to_fail self.old }
         ensures calls { sink_calls self.new ≡ min (sink_calls self.old + 1) (2 ^ 64 - 1) }
     {

@@ -1,12 +1,14 @@
 // The system's files, and a writer, as a host and a sink.
 ghost use Rattle.std.specs.Prelude.{◌≡◌, ◌<◌, ◌≤◌, false, None, length, is_some, IsTrue, IsErr, IsErrOf, IfOk, option_and_then};
 ghost use Rattle.std.specs.Io.KnownBytes.{ReadConsumes, WriteAppends};
+ghost use Rattle.std.specs.Result.{result_unwrap_or};
 ghost use Rattle.mw_io.specs.declared.sink.SinkFault.TheVariants.{Failed, NoMemory};
-ghost use Rattle.mw_io.specs.Outside.{Counts};
-ghost use Rattle.mw_io.specs.Real.{real_file, real_faults, real_writer, real_sink_faults};
+ghost use Rattle.mw_io.specs.Outside.{Counts, RoseBy};
+ghost use Rattle.mw_io.specs.Real.{real_file, real_faults, real_opened, real_given, real_writer, real_sink_faults};
 
 use crate::host::{Host, HostFailed};
 use crate::sink::{Sink, SinkFault};
+use crate::tally::Tally;
 use std::fs;
 use std::io::{Read, Write};
 use std::rt::Files;
@@ -16,6 +18,7 @@ pub struct RealHost<'a, R: Files> {
     files: &'a R,
     file: Option<R::File>,
     faults: u64,
+    tally: Tally,
 }
 
 impl<'a, R: Files> Drop for RealHost<'a, R> {
@@ -24,6 +27,7 @@ impl<'a, R: Files> Drop for RealHost<'a, R> {
             files: _,
             file,
             faults: _,
+            tally: _,
         } = self;
         drop(file);
     }
@@ -34,31 +38,27 @@ impl<'a, R: Files> RealHost<'a, R> {
     pub fn new(files: &'a R) -> Self
         ensures closed { real_file result ≡ None }
         ensures faults { real_faults result ≡ 0 }
+        ensures opened { real_opened result ≡ 0 }
+        ensures given { real_given result ≡ 0 }
     {
         RealHost {
             files,
             file: None,
             faults: 0,
+            tally: Tally::new(),
         }
     }
 }
 
 impl<'a, R: Files> Host for RealHost<'a, R> {
-    ghost use Rattle.std.specs.Prelude.{ℕ, List, [], false, None, is_some, ⊤};
+    ghost use Rattle.mw_io.specs.Real.{real_state};
 
-    ghost files = { λ h. None };
-
-    ghost is_open = { λ h. is_some h.file };
-
-    ghost rest = { λ h. [] };
-
-    ghost faults = { λ h. h.faults };
-
-    ghost is_sound = { λ h. false };
+    ghost state = { real_state };
 
     ghost tells = { λ h sound. sound };
 
     fn open(&mut self, name: &str) -> Result<(), HostFailed> {
+        self.tally.count_open();
         match fs::open(self.files, name) {
             Ok(file) => {
                 self.file = Some(file);
@@ -78,13 +78,18 @@ impl<'a, R: Files> Host for RealHost<'a, R> {
         ensures count { IfOk result (λ n. n ≤ length buf.new) }
         ensures still_open { IsTrue (is_some (real_file self.new)) }
         ensures cause { Counts (real_faults self.old) (real_faults self.new) (IsErr result) }
+        ensures asked { real_opened self.new ≡ real_opened self.old }
+        ensures given { RoseBy (result_unwrap_or result 0) (real_given self.old) (real_given self.new) }
         ensures passes { ReadConsumes (option_and_then R.File.remaining (real_file self.old)) (option_and_then R.File.remaining (real_file self.new)) result buf.new }
     {
         let Some(file) = &mut self.file else {
             unreachable!()
         };
         match file.read(buf) {
-            Ok(count) => Ok(count),
+            Ok(count) => {
+                self.tally.count_bytes(count);
+                Ok(count)
+            }
             Err(_) => {
                 self.faults = self.faults.saturating_add(1);
                 Err(HostFailed)
@@ -111,13 +116,9 @@ impl<W: Write> RealSink<W> {
 }
 
 impl<W: Write> Sink for RealSink<W> {
-    ghost use Rattle.std.specs.Prelude.{ℕ, List, None};
+    ghost use Rattle.mw_io.specs.Real.{real_sink_state};
 
-    ghost taken = { λ s. None };
-
-    ghost faults = { λ s. s.faults };
-
-    ghost wants = { λ s. 0 };
+    ghost state = { real_sink_state };
 
     fn write(&mut self, piece: &[u8]) -> Result<usize, SinkFault>
         requires { 0 < length piece.now }

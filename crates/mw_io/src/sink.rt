@@ -1,7 +1,7 @@
 // What takes bytes.
-ghost use Rattle.std.specs.Prelude.{◌≡◌, ◌<◌, ◌≤◌, ℕ, List, Option, length, take, IfOk, OnErr, IsErrOf};
+ghost use Rattle.std.specs.Prelude.{◌≡◌, ◌<◌, ◌≤◌, length, take, IfOk, OnErr, IsErrOf};
 ghost use Rattle.mw_io.specs.declared.sink.SinkFault.TheVariants.{Failed, NoMemory};
-ghost use Rattle.mw_io.specs.Outside.{Counts, with_more};
+ghost use Rattle.mw_io.specs.Outside.{SinkState, Counts, with_more};
 
 /// Why a sink took nothing.
 #[derive(Clone, Copy, Debug, PartialEq, Eq)]
@@ -14,22 +14,16 @@ pub enum SinkFault {
 
 /// What takes bytes, a piece at a time.
 pub trait Sink {
-    /// The bytes taken so far, where the sink tells them.
-    ghost taken: { Self → Option (List ℕ) };
-
-    /// How often a call has failed, up to 2^64 - 1.
-    ghost faults: { Self → ℕ };
-
-    /// How often the sink has wanted for memory, up to 2^64 - 1.
-    ghost wants: { Self → ℕ };
+    /// What the sink shows of itself.
+    ghost state: { Self → SinkState };
 
     /// Takes a front of the piece, and answers its length. An `Err` takes nothing.
     fn write(&mut self, piece: &[u8]) -> Result<usize, SinkFault>
         requires { 0 < length piece.now }
         ensures some { IfOk result (λ n. 0 < n) }
         ensures within { IfOk result (λ n. n ≤ length piece.now) }
-        ensures takes { IfOk result (λ n. taken self.new ≡ with_more (taken self.old) (take n piece.now)) }
-        ensures err { OnErr result (taken self.new ≡ taken self.old) }
-        ensures fault { Counts (faults self.old) (faults self.new) (IsErrOf result Failed) }
-        ensures want { Counts (wants self.old) (wants self.new) (IsErrOf result NoMemory) };
+        ensures takes { IfOk result (λ n. (state self.new).taken ≡ with_more (state self.old).taken (take n piece.now)) }
+        ensures err { OnErr result ((state self.new).taken ≡ (state self.old).taken) }
+        ensures fault { Counts (state self.old).faults (state self.new).faults (IsErrOf result Failed) }
+        ensures want { Counts (state self.old).wants (state self.new).wants (IsErrOf result NoMemory) };
 }

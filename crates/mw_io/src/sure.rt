@@ -1,28 +1,33 @@
 // A host and a sink in memory that fail only for want of memory.
 ghost use Rattle.std.specs.Prelude.{◌≡◌, ◌≢◌, ◌≤◌, ◌<◌, ◌↔◌, ℕ, List, [], ◌++◌, true, false, length, take, drop, is_ok, IsTrue, IsOk, OnOk, OnErr, IfOk, Some, None};
-ghost use Rattle.mw_io.specs.Outside.{content_of};
+ghost use Rattle.mw_io.specs.Outside.{RoseBy, content_of};
 
 use crate::host::{Host, HostFailed};
 use crate::shelf::Shelf;
 use crate::sink::{Sink, SinkFault};
+use crate::tally::Tally;
 use std::alloc::{AllocError, Global};
 
 /// Files in memory. A name that is not among them opens as an empty file, so no call fails.
 #[derive(Drop)]
 pub struct SureHost {
     shelf: Shelf,
+    tally: Tally,
 }
 
 impl SureHost {
-    ghost use Rattle.mw_io.specs.Sure.{sure_files, sure_is_open};
+    ghost use Rattle.mw_io.specs.Sure.{sure_files, sure_is_open, sure_opened, sure_given};
 
     /// A host with no files.
     pub fn new(alloc: Global) -> Self
         ensures files { (name : List ℕ) → sure_files result name ≡ None }
         ensures closed { sure_is_open result ≡ false }
+        ensures opened { sure_opened result ≡ 0 }
+        ensures given { sure_given result ≡ 0 }
     {
         SureHost {
             shelf: Shelf::new(alloc),
+            tally: Tally::new(),
         }
     }
 
@@ -40,17 +45,9 @@ impl SureHost {
 
 impl Host for SureHost {
     ghost use Rattle.std.specs.Prelude.{◌≡◌, ℕ, true, Some, refl, ⊤};
-    ghost use Rattle.mw_io.specs.Sure.{sure_files, sure_is_open, sure_rest};
+    ghost use Rattle.mw_io.specs.Sure.{sure_files, sure_is_open, sure_rest, sure_opened, sure_given, sure_state};
 
-    ghost files = { λ h. Some (sure_files h) };
-
-    ghost is_open = { sure_is_open };
-
-    ghost rest = { sure_rest };
-
-    ghost faults = { λ h. 0 };
-
-    ghost is_sound = { λ h. true };
+    ghost state = { sure_state };
 
     ghost tells = { λ h sound. refl };
 
@@ -59,13 +56,18 @@ impl Host for SureHost {
         ensures start { OnOk result (sure_rest self.new ≡ content_of (sure_files self.old) name.now) }
         ensures same_files { sure_files self.new ≡ sure_files self.old }
         ensures ok { IsOk result }
+        ensures asked { RoseBy 1 (sure_opened self.old) (sure_opened self.new) }
+        ensures given { sure_given self.new ≡ sure_given self.old }
     {
+        self.tally.count_open();
         self.shelf.open(name.as_bytes());
         Ok(())
     }
 
     fn read(&mut self, buf: &mut [u8]) -> Result<usize, HostFailed> {
-        Ok(self.shelf.read(buf))
+        let count = self.shelf.read(buf);
+        self.tally.count_bytes(count);
+        Ok(count)
     }
 }
 
@@ -99,14 +101,9 @@ impl SureSink {
 }
 
 impl Sink for SureSink {
-    ghost use Rattle.std.specs.Prelude.{ℕ, Some};
-    ghost use Rattle.mw_io.specs.Sure.{sure_taken, sure_wants};
+    ghost use Rattle.mw_io.specs.Sure.{sure_sink_state};
 
-    ghost taken = { λ s. Some (sure_taken s) };
-
-    ghost faults = { λ s. 0 };
-
-    ghost wants = { sure_wants };
+    ghost state = { sure_sink_state };
 
     fn write(&mut self, piece: &[u8]) -> Result<usize, SinkFault> {
         match self.bytes.extend_from_slice(piece) {

@@ -2,19 +2,19 @@
 ghost use Rattle.std.specs.Prelude.{◌≡◌, ◌+◌, ◌-◌, ◌^◌, ◌<◌, ◌≤◌, ◌↔◌, ◌++◌, ℕ, [], length, take, drop, IsTrue, OnOk, OnErr, IfOk, OnSome, IsErrOf, vec_len};
 ghost use Rattle.mw_io.specs.declared.sink.SinkFault.TheVariants.{Failed, NoMemory};
 ghost use Rattle.mw_io.specs.declared.whole.ReadFault.TheVariants.{Failed as ReadFailed, NoMemory as ReadNoMemory};
-ghost use Rattle.mw_io.specs.Outside.{Counts, IsReadOn, with_more};
+ghost use Rattle.mw_io.specs.Outside.{Counts, RoseBy, IsReadOn, with_more};
 
 use crate::host::{Host, HostFailed};
 use crate::sink::{Sink, SinkFault};
 use std::alloc::{AllocError, Global};
 
-/// Writes all the bytes. After an `Err` the sink has taken a front of them.
-#[tactic(auto, using(crate::proofs::Pieces::with_more_again, crate::proofs::Pieces::with_more_all, crate::proofs::Pieces::with_more_none))]
+/// Writes all the bytes. After an `Err` the sink has taken a front of them, and not all.
+#[tactic(auto, using(crate::proofs::Pieces::with_more_behind, crate::proofs::Pieces::with_more_all, crate::proofs::Pieces::with_more_none))]
 pub fn write_all<S: Sink>(sink: &mut S, bytes: &[u8]) -> Result<(), SinkFault>
-    ensures all { OnOk result (S.taken sink.new ≡ with_more (S.taken sink.old) bytes.now) }
-    ensures front { OnErr result ((k : ℕ) × (k ≤ length bytes.now) × (S.taken sink.new ≡ with_more (S.taken sink.old) (take k bytes.now))) }
-    ensures fault { Counts (S.faults sink.old) (S.faults sink.new) (IsErrOf result Failed) }
-    ensures want { Counts (S.wants sink.old) (S.wants sink.new) (IsErrOf result NoMemory) }
+    ensures all { OnOk result ((S.state sink.new).taken ≡ with_more (S.state sink.old).taken bytes.now) }
+    ensures front { OnErr result ((k : ℕ) × (k < length bytes.now) × ((S.state sink.new).taken ≡ with_more (S.state sink.old).taken (take k bytes.now))) }
+    ensures fault { Counts (S.state sink.old).faults (S.state sink.new).faults (IsErrOf result Failed) }
+    ensures want { Counts (S.state sink.old).wants (S.state sink.new).wants (IsErrOf result NoMemory) }
 {
     let mut at = 0;
     while at < bytes.len() {
@@ -58,20 +58,23 @@ fn read_piece<H: Host>(
     most: usize,
     bytes: &mut Vec<u8>,
 ) -> Result<usize, ReadFault>
-    requires opened { IsTrue (H.is_open host.old) }
+    requires opened { IsTrue (H.state host.old).is_open }
     requires room { 0 < length buf.old }
     requires some { 0 < most }
     ensures within { IfOk result (λ n. n ≤ most) }
     ensures len { IfOk result (λ n. vec_len bytes.new ≡ vec_len bytes.old + n) }
-    ensures adds { IfOk result (λ n. OnSome (H.files host.old) (bytes.new.items ≡ bytes.old.items ++ take n (H.rest host.old))) }
-    ensures left { IfOk result (λ n. OnSome (H.files host.old) (H.rest host.new ≡ drop n (H.rest host.old))) }
-    ensures end { IfOk result (λ n. OnSome (H.files host.old) ((n ≡ 0) ↔ (H.rest host.old ≡ []))) }
-    ensures passed { OnSome (H.files host.old) (IsReadOn most (H.rest host.old) (H.rest host.new)) }
-    ensures still_open { IsTrue (H.is_open host.new) }
-    ensures same_files { H.files host.new ≡ H.files host.old }
-    ensures cause { Counts (H.faults host.old) (H.faults host.new) (IsErrOf result ReadFailed) }
-    ensures stays_sound { IsTrue (H.is_sound host.old) → IsTrue (H.is_sound host.new) }
-    ensures sure { IsTrue (H.is_sound host.old) → IsErrOf result ReadFailed → ⊥ }
+    ensures adds { IfOk result (λ n. OnSome (H.state host.old).files (bytes.new.items ≡ bytes.old.items ++ take n (H.state host.old).rest)) }
+    ensures left { IfOk result (λ n. OnSome (H.state host.old).files ((H.state host.new).rest ≡ drop n (H.state host.old).rest)) }
+    ensures end { IfOk result (λ n. OnSome (H.state host.old).files ((n ≡ 0) ↔ ((H.state host.old).rest ≡ []))) }
+    ensures passed { OnSome (H.state host.old).files (IsReadOn most (H.state host.old).rest (H.state host.new).rest) }
+    ensures still_open { IsTrue (H.state host.new).is_open }
+    ensures same_files { (H.state host.new).files ≡ (H.state host.old).files }
+    ensures cause { Counts (H.state host.old).faults (H.state host.new).faults (IsErrOf result ReadFailed) }
+    ensures opened { (H.state host.new).opened ≡ (H.state host.old).opened }
+    ensures counted { IfOk result (λ n. RoseBy n (H.state host.old).given (H.state host.new).given) }
+    ensures given { (H.state host.new).given ≤ (H.state host.old).given + most }
+    ensures stays_sound { IsTrue (H.state host.old).is_sound → IsTrue (H.state host.new).is_sound }
+    ensures sure { IsTrue (H.state host.old).is_sound → IsErrOf result ReadFailed → ⊥ }
 {
     let room = buf.len().min(most);
     let count = host.read(&mut buf[..room])?;
@@ -84,17 +87,19 @@ fn read_piece<H: Host>(
 /// failed, which over a sound host none does, and `NoMemory` where memory is wanting; some bytes may be read by then.
 /// The file stays open.
 pub fn read_up_to<H: Host>(alloc: Global, host: &mut H, limit: usize) -> Result<Vec<u8>, ReadFault>
-    requires opened { IsTrue (H.is_open host.old) }
+    requires opened { IsTrue (H.state host.old).is_open }
     requires limit { limit + 1 < 2 ^ 64 }
-    ensures bytes { IfOk result (λ bytes. OnSome (H.files host.old) (bytes.items ≡ take (limit + 1) (H.rest host.old))) }
+    ensures bytes { IfOk result (λ bytes. OnSome (H.state host.old).files (bytes.items ≡ take (limit + 1) (H.state host.old).rest)) }
     ensures within { IfOk result (λ bytes. vec_len bytes ≤ limit + 1) }
-    ensures rest { IfOk result (λ bytes. OnSome (H.files host.old) (bytes.items ++ H.rest host.new ≡ H.rest host.old)) }
-    ensures passed { OnSome (H.files host.old) (IsReadOn (limit + 1) (H.rest host.old) (H.rest host.new)) }
-    ensures still_open { IsTrue (H.is_open host.new) }
-    ensures same_files { H.files host.new ≡ H.files host.old }
-    ensures cause { Counts (H.faults host.old) (H.faults host.new) (IsErrOf result ReadFailed) }
-    ensures stays_sound { IsTrue (H.is_sound host.old) → IsTrue (H.is_sound host.new) }
-    ensures sure { IsTrue (H.is_sound host.old) → IsErrOf result ReadFailed → ⊥ }
+    ensures rest { IfOk result (λ bytes. OnSome (H.state host.old).files (bytes.items ++ (H.state host.new).rest ≡ (H.state host.old).rest)) }
+    ensures passed { OnSome (H.state host.old).files (IsReadOn (limit + 1) (H.state host.old).rest (H.state host.new).rest) }
+    ensures still_open { IsTrue (H.state host.new).is_open }
+    ensures same_files { (H.state host.new).files ≡ (H.state host.old).files }
+    ensures cause { Counts (H.state host.old).faults (H.state host.new).faults (IsErrOf result ReadFailed) }
+    ensures opened { (H.state host.new).opened ≡ (H.state host.old).opened }
+    ensures given { (H.state host.new).given ≤ (H.state host.old).given + (limit + 1) }
+    ensures stays_sound { IsTrue (H.state host.old).is_sound → IsTrue (H.state host.new).is_sound }
+    ensures sure { IsTrue (H.state host.old).is_sound → IsErrOf result ReadFailed → ⊥ }
 {
     let mut buf = [0; PIECE];
     let mut bytes = Vec::new(alloc);

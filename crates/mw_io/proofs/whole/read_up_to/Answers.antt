@@ -1,5 +1,5 @@
-use Rattle.std.proofs.Common.{rules, arith}
-use Rattle.mw_io.proofs.Pieces.{told_again, told_front, told_all, told_end, told_on}
+use Rattle.std.proofs.Common.{rules, arith, ◌∙◌}
+use Rattle.mw_io.proofs.Pieces.{told_again, told_front, told_all, told_end, told_on, Counts-ok}
 use Rattle.mw_io.proofs.whole.read_up_to.Goals as goal
 use Rattle.mw_io.proofs.whole.read_up_to.Goals.{else-loop-buf-test, then-loop-buf-test+in_ok-read_piece+then-branch-eq0}
 
@@ -10,7 +10,9 @@ loop-buf-preserved g c = record {
   still_open = search rules;
   passed = told_on _ _ _ _ _ _ _ _ c.loop-buf.invariant.same_files c.loop-buf.invariant.passed c.in_ok-read_piece.ensures.left c.in_ok-read_piece.ensures.len;
   same_files = search rules;
-  faults = omega (arith, c.read_piece.ensures.cause);
+  faults = Counts-ok _ _ _ _ c.in_ok-read_piece.ensures.cause ∙ c.loop-buf.invariant.faults;
+  opened = c.in_ok-read_piece.ensures.opened ∙ c.loop-buf.invariant.opened;
+  given = omega (arith, c.in_ok-read_piece.ensures.counted, c.in_ok-read_piece.ensures.len);
   sound = search rules;
 }
 

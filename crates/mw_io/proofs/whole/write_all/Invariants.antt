@@ -5,9 +5,9 @@ use Rattle.mw_io.proofs.whole.write_all.Given as goal
 abbrev pub invariant-loop-at : goal.invariant-loop-at
 invariant-loop-at g l = record {
   within : l.at ≤ length l.bytes;
-  taken : g.S.Sink.taken l.sink ≡ with_more (g.S.Sink.taken l.fn.sink) (take l.at l.bytes);
-  faults : g.S.Sink.faults l.fn.sink ≤ g.S.Sink.faults l.sink;
-  wants : g.S.Sink.wants l.fn.sink ≤ g.S.Sink.wants l.sink;
+  taken : (g.S.Sink.state l.sink).taken ≡ with_more (g.S.Sink.state l.fn.sink).taken (take l.at l.bytes);
+  faults : (g.S.Sink.state l.sink).faults ≡ (g.S.Sink.state l.fn.sink).faults;
+  wants : (g.S.Sink.state l.sink).wants ≡ (g.S.Sink.state l.fn.sink).wants;
 }
 
 abbrev pub decreases-loop-at : goal.decreases-loop-at

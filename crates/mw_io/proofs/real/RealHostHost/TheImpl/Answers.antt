@@ -24,6 +24,8 @@ read-tells g c = record {
   still_open = c.ensures.still_open;
   same_files = refl;
   cause = c.ensures.cause;
+  opened = c.ensures.asked;
+  given = c.ensures.given;
   stays_sound = λ h. h;
   sure = λ h. never h;
 }
