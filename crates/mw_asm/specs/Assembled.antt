@@ -4,7 +4,7 @@ use Rattle.std.specs.Option.{option_map_or}
 use Rattle.std.specs.List.{slice_split}
 use Rattle.mw_tables.specs.Row.{TableRow}
 use Rattle.mw_tables.specs.Rows.{table}
-use Rattle.mw_tables.specs.Matching.{kind_number}
+use Rattle.mw_tables.specs.Matching.{has_prefix}
 use Rattle.mw_syntax.specs.declared.expression.Expression.{Expression}
 use Rattle.mw_syntax.specs.declared.fault.What.TheVariants.{Label as LabelFault, Org as OrgFault, TooLong}
 use Rattle.mw_syntax.specs.declared.fault.Refusal.{Refusal}
@@ -30,7 +30,7 @@ source_limit = 4194304
 
 -- how many bytes an instruction has: 8 where its row has a prefix
 abbrev pub code_size : ℕ → ℕ
-code_size row = if option_map_or (λ (r : TableRow). nat_lt 0 (kind_number r.prefix)) (slice_get table row) false then 8 else 4
+code_size row = if has_prefix row then 8 else 4
 
 -- the labels, those of a line behind those before it
 abbrev pub with_label : List ℕ → ℕ → Option Label → List Placed → List Placed

@@ -3,6 +3,7 @@ use Rattle.std.specs.Prelude.{ℕ, ◌+◌, ◌≤◌, ◌==◌, Bool, false, no
 use Rattle.std.specs.List.{before_first, after_first}
 use Rattle.std.specs.Option.{option_map_or}
 use Rattle.std.specs.Str.Parse.{digits_value}
+use Rattle.mw_bus.specs.Memory.{ram_size}
 use Rattle.mw_isa.specs.declared.access.Span.{Span}
 use Rattle.mw_cli.specs.declared.command.RunCommand.{RunCommand}
 use Rattle.mw_cli.specs.declared.command.Command.{Command}
@@ -28,9 +29,9 @@ pub record Wanted : Type 0 where
 
 -- the files that an order asks for, in their order: an image has at most as many bytes as RAM, and a source 4 MiB
 abbrev pub files_of : Order → List Wanted
-files_of (Run order) = record { name = order.image; most = 16777216 } ∷ []
+files_of (Run order) = record { name = order.image; most = ram_size } ∷ []
 files_of (Assemble source) = record { name = source; most = 4194304 } ∷ []
-files_of (Disassemble image) = record { name = image; most = 16777216 } ∷ []
+files_of (Disassemble image) = record { name = image; most = ram_size } ∷ []
 
 -- the run that the code's object stands for
 abbrev pub run_in : RunCommand → RunOrder
@@ -44,7 +45,7 @@ order_in (DisassembleWords image) = Disassemble image.now
 
 -- a run of the code is asked for within its limits
 abbrev pub IsBounded : Command → Type 0
-IsBounded (RunWords command) = (command.cycles ≤ 4000000) × IfSome command.dump (λ span. span.at + span.len ≤ 16777216)
+IsBounded (RunWords command) = (command.cycles ≤ 4000000) × IfSome command.dump (λ span. span.at + span.len ≤ ram_size)
 IsBounded (AssembleWords source) = Unit {0}
 IsBounded (DisassembleWords image) = Unit {0}
 
@@ -59,11 +60,11 @@ number_up_to most word = if bytes_eq (decimal (digits_value 10 word)) word && na
 
 -- the stretch of RAM from an address on, if it has a byte and ends in RAM
 abbrev pub span_at : ℕ → ℕ → Option Span
-span_at at len = if nat_le 1 len && nat_le (at + len) 16777216 then Some (record { at = at; len = len }) else None
+span_at at len = if nat_le 1 len && nat_le (at + len) ram_size then Some (record { at = at; len = len }) else None
 
 -- the stretch of RAM that two words name, if they write its address and its length, at most 65,536 bytes
 abbrev pub span_by : List ℕ → List ℕ → Option Span
-span_by at len = option_and_then (λ a. option_and_then (span_at a) (number_up_to 65536 len)) (number_up_to 16777216 at)
+span_by at len = option_and_then (λ a. option_and_then (span_at a) (number_up_to 65536 len)) (number_up_to ram_size at)
 
 -- a colon
 abbrev pub is_colon : ℕ → Bool

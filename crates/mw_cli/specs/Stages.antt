@@ -1,5 +1,6 @@
 -- What the parts of a call say, each of its own refusals.
 use Rattle.std.specs.Prelude.{ℕ, ◌+◌, ◌≡◌, ◌<◌, ◌⊎◌, List, length, take, Some, None, Result, Ok, Err, IfSome, IsSomeAnd, IsTrue, ⊤}
+use Rattle.mw_bus.specs.Memory.{ram_size}
 use Rattle.mw_io.specs.Outside.{HostState, SinkState, Rose, content_of}
 use Rattle.mw_isa.specs.Unbuilt.{first_unbuilt}
 use Rattle.mw_cli.specs.declared.status.Status.{Status}
@@ -46,7 +47,7 @@ IsReadRefusal host name refusal = ⊥
 
 -- the image of this name is longer than RAM
 abbrev pub IsTooLong : Change HostState → List ℕ → Type 0
-IsTooLong host name = (image : List ℕ) × IsContent host name image × (16777216 < length image)
+IsTooLong host name = (image : List ℕ) × IsContent host name image × (ram_size < length image)
 
 -- why an image isn't there
 abbrev pub IsLoadRefusal : Change HostState → List ℕ → Refusal → Type 0

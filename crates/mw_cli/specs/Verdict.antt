@@ -1,5 +1,6 @@
 -- What an order comes to, given what its files have.
 use Rattle.std.specs.Prelude.{ℕ, ◌≡◌, if◌then◌else◌, nat_lt, List, [], ◌∷◌, ◌++◌, length, Option, Some, None, Result, Ok, Err, codes, decimal}
+use Rattle.mw_bus.specs.Memory.{ram_size}
 use Rattle.mw_digits.specs.Digits.{hex}
 use Rattle.mw_isa.specs.Unbuilt.{first_unbuilt}
 use Rattle.mw_asm.specs.declared.fault.Place.{Place}
@@ -53,7 +54,7 @@ first_of (bytes ∷ others) = bytes
 
 -- this verdict, unless the image is longer than RAM
 abbrev pub unless_too_large : List ℕ → Verdict → Verdict
-unless_too_large image verdict = if nat_lt 16777216 (length image) then Refuses ImageTooLarge too_large_line else verdict
+unless_too_large image verdict = if nat_lt ram_size (length image) then Refuses ImageTooLarge too_large_line else verdict
 
 -- this is written, unless the run reaches an instruction that isn't built
 abbrev pub unless_unbuilt : Option (ℕ × ℕ) → Output → Verdict

@@ -1,13 +1,15 @@
 ghost use Rattle.std.specs.Prelude.{◌≡◌, ◌+◌, ◌≤◌, map, string_bytes, option_map, IfSome, bytes_eq, decimal};
+ghost use Rattle.mw_bus.specs.Memory.{ram_size};
 ghost use Rattle.mw_cli.specs.Command.{order_in, order_of, IsBounded, is_name, number_up_to, span_by, span_of, dump_by, order_by, file_by};
 
+use mw_bus::RAM_SIZE;
 use mw_isa::Span;
 
 /// The greatest number of cycles that a run may be asked for.
 pub const MOST_CYCLES: u64 = 4000000;
 
 /// How many bytes of RAM there are.
-const RAM_SIZE: u64 = 16777216;
+const RAM_BYTES: u64 = RAM_SIZE as u64;
 
 /// The greatest number of bytes that a dump may be asked for.
 const MOST_DUMPED: u64 = 65536;
@@ -77,11 +79,11 @@ fn number(word: &str, most: u64) -> Option<u64>
 /// The stretch of RAM that two words name, its address and its length, if it is one.
 fn read_parts(at: &str, len: &str) -> Option<Span>
     ensures value { result ≡ span_by at.now len.now }
-    ensures room { IfSome result (λ span. span.at + span.len ≤ 16777216) }
+    ensures room { IfSome result (λ span. span.at + span.len ≤ ram_size) }
 {
-    let at = number(at, RAM_SIZE)?;
+    let at = number(at, RAM_BYTES)?;
     let len = number(len, MOST_DUMPED)?;
-    if len >= 1 && at + len <= RAM_SIZE {
+    if len >= 1 && at + len <= RAM_BYTES {
         Some(Span {
             at: at as u32,
             len: len as u32,
@@ -94,7 +96,7 @@ fn read_parts(at: &str, len: &str) -> Option<Span>
 /// The stretch of RAM that a word A:L names, if it is one.
 fn read_span(word: &str) -> Option<Span>
     ensures value { result ≡ span_of word.now }
-    ensures room { IfSome result (λ span. span.at + span.len ≤ 16777216) }
+    ensures room { IfSome result (λ span. span.at + span.len ≤ ram_size) }
 {
     match word.split_once(':') {
         Some((at, len)) => read_parts(at, len),
@@ -105,7 +107,7 @@ fn read_span(word: &str) -> Option<Span>
 /// The stretch of RAM that an option and its word ask for, if it is a dump's.
 fn read_dump(option: &str, word: &str) -> Option<Span>
     ensures value { result ≡ dump_by option.now word.now }
-    ensures room { IfSome result (λ span. span.at + span.len ≤ 16777216) }
+    ensures room { IfSome result (λ span. span.at + span.len ≤ ram_size) }
 {
     if option == "--dump" {
         read_span(word)
@@ -122,7 +124,7 @@ fn order<'a>(
     digits: &str,
     dump: Option<Span>,
 ) -> Option<Command<'a>>
-    requires { IfSome dump (λ span. span.at + span.len ≤ 16777216) }
+    requires { IfSome dump (λ span. span.at + span.len ≤ ram_size) }
     ensures value { option_map order_in result ≡ order_by verb.now image.now option.now digits.now dump }
     ensures bounded { IfSome result IsBounded }
 {

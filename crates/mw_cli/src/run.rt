@@ -1,4 +1,5 @@
 ghost use Rattle.std.specs.Prelude.{◌≡◌, ◌+◌, ◌≤◌, length, IfOk, IfErr, IfSome, IsTrue};
+ghost use Rattle.mw_bus.specs.Memory.{ram_size};
 ghost use Rattle.mw_cli.specs.Command.{Run, run_in, files_of};
 ghost use Rattle.mw_cli.specs.Headline.{SpellsRun};
 ghost use Rattle.mw_io.specs.Outside.{Counts};
@@ -24,9 +25,9 @@ fn text_of_run<'a>(
     cycles: u64,
     dump: Option<Span>,
 ) -> Result<Bytes, Refusal<'a>>
-    requires fits { length image.now ≤ 16777216 }
+    requires fits { length image.now ≤ ram_size }
     requires few { cycles ≤ 4000000 }
-    requires room { IfSome dump (λ span. span.at + span.len ≤ 16777216) }
+    requires room { IfSome dump (λ span. span.at + span.len ≤ ram_size) }
     ensures text { IfOk result (SpellsRun image.now cycles dump) }
     ensures refused { IfErr result (IsRunRefusal image.now cycles) }
 {
@@ -49,7 +50,7 @@ pub fn run<'a, H: Host>(
     host: &mut H,
 ) -> Result<Bytes, Refusal<'a>>
     requires few { command.now.cycles ≤ 4000000 }
-    requires room { IfSome command.now.dump (λ span. span.at + span.len ≤ 16777216) }
+    requires room { IfSome command.now.dump (λ span. span.at + span.len ≤ ram_size) }
     ensures gives { IfOk result (Gives (change (H.state host.old) (H.state host.new)) (Run (run_in command.now))) }
     ensures refused { IfErr result (GivesNothing (change (H.state host.old) (H.state host.new)) (Run (run_in command.now))) }
     ensures faults { Counts (H.state host.old).faults (H.state host.new).faults (ending result ≡ ReadFault) }

@@ -1,15 +1,17 @@
 ghost use Rattle.std.specs.Prelude.{◌≡◌, ◌+◌, ◌^◌, ◌<◌, ◌≤◌, [], ◌∷◌, length, OnOk, IfOk, IfErr, IsTrue, vec_len};
+ghost use Rattle.mw_bus.specs.Memory.{ram_size};
 ghost use Rattle.mw_io.specs.Outside.{Counts};
 ghost use Rattle.mw_cli.specs.declared.status.Status.TheVariants.{ReadFault as ReadStatus, WriteFault, NoMemory};
 ghost use Rattle.mw_cli.specs.Outside.{change, Opens, Took};
 ghost use Rattle.mw_cli.specs.Stages.{ending, IsContent, IsFront, IsReadRefusal, IsLoadRefusal, IsWriteRefusal};
 
 use crate::refusal::Refusal;
+use mw_bus::RAM_SIZE;
 use mw_io::{Host, ReadFault, Sink, SinkFault, read_up_to, write_all};
 use std::alloc::Global;
 
 /// The most bytes that an image may have.
-const MOST_IMAGE_BYTES: usize = 16777216;
+const MOST_IMAGE_BYTES: usize = RAM_SIZE;
 
 /// Reads the file of a name to its end, or to one byte past a limit where it goes on so long.
 pub fn read_file<'a, H: Host>(
@@ -44,10 +46,10 @@ pub fn read_image<'a, H: Host>(
     host: &mut H,
 ) -> Result<Vec<u8>, Refusal<'a>>
     ensures image { IfOk result (λ bytes. IsContent (change (H.state host.old) (H.state host.new)) name.now bytes.items) }
-    ensures fits { IfOk result (λ bytes. length bytes.items ≤ 16777216) }
+    ensures fits { IfOk result (λ bytes. length bytes.items ≤ ram_size) }
     ensures refused { IfErr result (IsLoadRefusal (change (H.state host.old) (H.state host.new)) name.now) }
     ensures faults { Counts (H.state host.old).faults (H.state host.new).faults (ending result ≡ ReadStatus) }
-    ensures opens { Opens (change (H.state host.old) (H.state host.new)) (record { name = name.now; most = 16777216 } ∷ []) }
+    ensures opens { Opens (change (H.state host.old) (H.state host.new)) (record { name = name.now; most = ram_size } ∷ []) }
     ensures same_files { (H.state host.new).files ≡ (H.state host.old).files }
     ensures stays_sound { IsTrue (H.state host.old).is_sound → IsTrue (H.state host.new).is_sound }
 {

@@ -5,9 +5,7 @@ use Rattle.std.specs.Option.{option_map_or}
 use Rattle.mw_alu.specs.declared.op.AluOut.{AluOut}
 use Rattle.mw_alu.specs.Alu.{alu_of}
 use Rattle.mw_decode.specs.declared.insn.Insn.{Insn}
-use Rattle.mw_tables.specs.Row.{TableRow}
-use Rattle.mw_tables.specs.Rows.{table}
-use Rattle.mw_tables.specs.Matching.{kind_number}
+use Rattle.mw_tables.specs.Matching.{has_prefix}
 use Rattle.mw_isa.specs.declared.operation.Operation.{Operation}
 use Rattle.mw_isa.specs.declared.operation.Operation.TheVariants.{Alu, Branch, Storage, Hint, Later}
 use Rattle.mw_isa.specs.declared.operation.AluRow.{AluRow}
@@ -30,13 +28,9 @@ use Rattle.mw_isa.specs.Places.{places_of, operand_of}
 use Rattle.mw_isa.specs.Reads.{register_at}
 use Rattle.mw_isa.specs.Slots.{known}
 
--- the row of an instruction has a prefix
-abbrev pub has_prefix : Insn → Bool
-has_prefix insn = option_map_or (λ (row : TableRow). nat_lt 0 (kind_number row.prefix)) (slice_get table insn.row) false
-
 -- the address behind an instruction: behind its word, or behind its prefix and its suffix
 abbrev pub behind_insn : Insn → ℕ → ℕ
-behind_insn insn at = if has_prefix insn then behind (behind at) else behind at
+behind_insn insn at = if has_prefix insn.row then behind (behind at) else behind at
 
 -- no register is written, and the instruction at this address follows
 abbrev pub branch_to : ℕ → Outcome

@@ -8,7 +8,8 @@ use Rattle.std.proofs.lemmas.Bool.{cases_lt}
 use Rattle.std.proofs.lemmas.Bool.Decides.{nat_tests}
 use Rattle.std.specs.List.{All, sum_by, flat_map}
 use Rattle.mw_loadstore.specs.declared.access.Piece.{Piece}
-use Rattle.mw_loadstore.specs.Pieces.{IsInOneBlock, addresses_from, padded, piece_addresses, piece_len, pieces_of, room_of}
+use Rattle.mw_bus.specs.Memory.{padded}
+use Rattle.mw_loadstore.specs.Pieces.{IsInOneBlock, addresses_from, piece_addresses, piece_len, pieces_of, room_of}
 
 -- one address more
 pub addresses_from-more : (ea n : ℕ) → addresses_from ea (n + 1) ≡ addresses_from ea n ++ (ea + n) % 2 ^ 64 ∷ []

@@ -30,10 +30,6 @@ piece_addresses piece = addresses_from piece.ea piece.len
 abbrev pub IsInOneBlock : Piece → Type 0
 IsInOneBlock piece = (1 ≤ piece.len) × (piece.ea % 64 + piece.len ≤ 64)
 
--- bytes of at most 8, with zeros behind them up to 8
-abbrev pub padded : List ℕ → List ℕ
-padded bytes = bytes ++ replicate (8 - length bytes) 0
-
 -- how many bytes from an address on, of so many, lie in the block of 64 bytes in which they begin
 abbrev pub front_of : ℕ → ℕ → ℕ
 front_of at len = if nat_le len (64 - at % 64) then len else 64 - at % 64

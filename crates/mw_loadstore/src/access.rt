@@ -1,6 +1,7 @@
 ghost use Rattle.std.specs.Prelude.{◌≡◌, ◌+◌, ◌<◌, ◌≤◌, ◌++◌, length};
 ghost use Rattle.std.specs.List.{All, sum_by, flat_map};
-ghost use Rattle.mw_loadstore.specs.Pieces.{IsInOneBlock, piece_addresses, addresses_from, padded, piece_len, pieces_of};
+ghost use Rattle.mw_bus.specs.Memory.{padded};
+ghost use Rattle.mw_loadstore.specs.Pieces.{IsInOneBlock, piece_addresses, addresses_from, piece_len, pieces_of};
 
 use arrayvec::ArrayVec;
 

@@ -1,6 +1,7 @@
 -- Which row a word or a name is: at most one.
-use Rattle.std.specs.Prelude.{ℕ, ◌≡◌, ◌==◌, Bool, ◌&&◌, List, Option, bit_and, slice_get, map, IsSomeAnd, IsTrue}
+use Rattle.std.specs.Prelude.{ℕ, ◌≡◌, ◌==◌, Bool, false, ◌&&◌, nat_lt, List, Option, bit_and, slice_get, map, IsSomeAnd, IsTrue}
 use Rattle.std.specs.List.{position_from}
+use Rattle.std.specs.Option.{option_map_or}
 use Rattle.mw_tables.specs.declared.row.PrefixKind.{PrefixKind}
 use Rattle.mw_tables.specs.declared.row.PrefixKind.TheVariants.{Plain, Mls, Eight, Nop}
 use Rattle.mw_tables.specs.Row.{TableRow}
@@ -13,6 +14,10 @@ kind_number Plain = 0
 kind_number Mls = 1
 kind_number Eight = 2
 kind_number Nop = 3
+
+-- the row at a place of the table has a prefix
+abbrev pub has_prefix : ℕ → Bool
+has_prefix place = option_map_or (λ (row : TableRow). nat_lt 0 (kind_number row.prefix)) (slice_get table place) false
 
 -- the row has this kind of prefix, and the word, or the suffix, has the row's fixed bits
 abbrev pub matches : PrefixKind → ℕ → TableRow → Bool

@@ -1,5 +1,6 @@
 ghost use Rattle.std.specs.Prelude.{◌≡◌, [], ◌+◌, ◌≤◌, ◌∷◌, ◌++◌, length, codes, IfSome, OnOk};
 ghost use Rattle.std.specs.List.{flat_map};
+ghost use Rattle.mw_bus.specs.Memory.{ram_size};
 ghost use Rattle.mw_digits.specs.Digits.{hex};
 ghost use Rattle.mw_isa.specs.Text.{hex_bytes, line, dump_words, asked_words};
 
@@ -27,7 +28,7 @@ fn add_row(text: &mut Bytes, at: u64, bytes: &[u8]) -> Result<(), NoMemory>
 
 /// Appends the lines of a dump of RAM.
 fn add_rows(text: &mut Bytes, ram: &Ram, span: Span) -> Result<(), NoMemory>
-    requires { span.at + span.len ≤ 16777216 }
+    requires { span.at + span.len ≤ ram_size }
     ensures { OnOk result (text.new ≡ text.old ++ flat_map line (dump_words ram.now span)) }
 {
     for row in 0..(span.len + (ROW - 1)) / ROW {
@@ -40,7 +41,7 @@ fn add_rows(text: &mut Bytes, ram: &Ram, span: Span) -> Result<(), NoMemory>
 
 /// Appends the lines of the dump of RAM, if one is asked for.
 pub fn add_dump(text: &mut Bytes, ram: &Ram, dump: Option<Span>) -> Result<(), NoMemory>
-    requires { IfSome dump (λ span. span.at + span.len ≤ 16777216) }
+    requires { IfSome dump (λ span. span.at + span.len ≤ ram_size) }
     ensures { OnOk result (text.new ≡ text.old ++ flat_map line (asked_words ram.now dump)) }
 {
     match dump {

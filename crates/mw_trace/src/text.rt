@@ -1,4 +1,5 @@
 ghost use Rattle.std.specs.Prelude.{◌≡◌, ◌+◌, ◌≤◌, All, IfOk, IfSome, OnOk};
+ghost use Rattle.mw_bus.specs.Memory.{ram_size};
 ghost use Rattle.mw_isa.specs.State.{seen};
 ghost use Rattle.mw_isa.specs.Text.{text_of};
 ghost use Rattle.mw_isa.specs.Reading.{FitsEvent, FitsEnd, Spells};
@@ -22,7 +23,7 @@ pub fn print(
     state: &State,
     dump: Option<Span>,
 ) -> Result<Bytes, NoMemory>
-    requires { IfSome dump (λ span. span.at + span.len ≤ 16777216) }
+    requires { IfSome dump (λ span. span.at + span.len ≤ ram_size) }
     ensures text { IfOk result (λ text. text ≡ text_of events.now end.now (seen state.now) dump) }
     ensures events_fit { OnOk result (All FitsEvent events.now) }
     ensures end_fits { OnOk result (FitsEnd end.now) }
