@@ -1,15 +1,15 @@
 /// A row of the instruction table whose result is there in one cycle, by the row's name.
 #[derive(Clone, Copy, Debug, PartialEq, Eq)]
 pub enum AluOp {
-    /// addi: a and the number b.
+    /// addi: a plus the number b.
     Addi,
-    /// addis: a and the number b, shifted left by 16.
+    /// addis: a plus the number b shifted left by 16.
     Addis,
-    /// ori: a or the number b.
+    /// ori: the bits that a or the number b has.
     Ori,
-    /// add: a and b.
+    /// add: a plus b.
     Add,
-    /// paddi: a and the number b.
+    /// paddi: a plus the number b.
     Paddi,
 }
 

@@ -1,5 +1,6 @@
 ghost use Rattle.std.specs.Prelude.{◌≡◌, ◌≤◌, ◌<◌, ◌↔◌, length, OnOk, IfOk, IfErr, None, Err};
 ghost use Rattle.std.specs.List.{range_with_len};
+ghost use Rattle.mw_bus.specs.Memory.{ram_size};
 ghost use Rattle.mw_isa.specs.State.{seen};
 ghost use Rattle.mw_isa.specs.Replay.{cycles_of};
 ghost use Rattle.mw_isa.specs.Runs.{Runs};
@@ -22,7 +23,7 @@ pub fn simulate(alloc: Global, image: &[u8], n: u64) -> Result<Run, RunFault>
     ensures each_cycle { IfOk result (λ run. cycles_of run.events ≡ range_with_len 0 n) }
     ensures built { OnOk result (first_unbuilt image.now n ≡ None) }
     ensures cause { IfErr result (HasCause image.now n) }
-    ensures too_large { (result ≡ Err RunFault.ImageTooLarge) ↔ (16777216 < length image.now) }
+    ensures too_large { (result ≡ Err RunFault.ImageTooLarge) ↔ (ram_size < length image.now) }
 {
     if image.len() > RAM_SIZE {
         return Err(RunFault::ImageTooLarge);

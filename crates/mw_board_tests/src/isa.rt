@@ -10,7 +10,7 @@ fn alu(op: AluOp, inputs: Inputs) -> Operation {
     Operation::Alu(AluRow {
         op,
         inputs,
-        carry: Carry::Zero,
+        carry: Carry::NoCarry,
         ending: Ending::Plain,
     })
 }

@@ -20,15 +20,6 @@ nothing-cause host out order (Bad name line column) silent cause = (cause, silen
 nothing-cause host out order Unwritable silent cause = absurd cause
 nothing-cause host out order OutOfMemory silent cause = inl silent
 
--- a text that isn't written
-pub write-cause : (host : Change HostState) (out : Change SinkState) (order : Order) (text : List ℕ) (refusal : Refusal) → Gives host order text → IsWriteRefusal out text refusal → HasCause host out order refusal
-write-cause host out order text (Unreadable name) gives cause = absurd cause
-write-cause host out order text TooLarge gives cause = absurd cause
-write-cause host out order text (NotBuilt cia) gives cause = absurd cause
-write-cause host out order text (Bad name line column) gives cause = absurd cause
-write-cause host out order text Unwritable gives cause = (text, gives, cause)
-write-cause host out order text OutOfMemory gives cause = inr (cause.0, (text, gives, cause.1))
-
 -- with nothing to write, no write failed
 nothing-written : (host : Change HostState) (order : Order) (refusal : Refusal) → GivesNothing host order refusal → status_of refusal ≡ WriteFault → ⊥
 nothing-written host order (Unreadable name) cause e = cc
@@ -38,29 +29,12 @@ nothing-written host order (Bad name line column) cause e = cc
 nothing-written host order Unwritable cause e = absurd cause
 nothing-written host order OutOfMemory cause e = cc
 
--- a text that isn't written was read for
-written-read : (out : Change SinkState) (text : List ℕ) (refusal : Refusal) → IsWriteRefusal out text refusal → status_of refusal ≡ ReadFault → ⊥
-written-read out text (Unreadable name) cause e = absurd cause
-written-read out text TooLarge cause e = absurd cause
-written-read out text (NotBuilt cia) cause e = absurd cause
-written-read out text (Bad name line column) cause e = absurd cause
-written-read out text Unwritable cause e = cc
-written-read out text OutOfMemory cause e = cc
-
 -- the counts, where there is nothing to write
 pub nothing-faults : (host : Change HostState) (s : SinkState) (order : Order) (refusal : Refusal) → Counts host.before.faults host.after.faults (status_of refusal ≡ ReadFault) → GivesNothing host order refusal → Faults host (change s s) (status_of refusal)
 nothing-faults host s order refusal reads cause = record {
   reads = reads;
   writes = calm s.faults s.faults (status_of refusal ≡ WriteFault) refl (nothing-written host order refusal cause);
   wants = λ h. refl;
-}
-
--- the counts, where a text isn't written
-pub write-faults : (host : Change HostState) (out : Change SinkState) (text : List ℕ) (refusal : Refusal) → host.after.faults ≡ host.before.faults → Counts out.before.faults out.after.faults (status_of refusal ≡ WriteFault) → Counts out.before.wants out.after.wants (status_of refusal ≡ NoMemory) → IsWriteRefusal out text refusal → Faults host out (status_of refusal)
-write-faults host out text refusal same writes wants cause = record {
-  reads = calm host.before.faults host.after.faults (status_of refusal ≡ ReadFault) same (written-read out text refusal cause);
-  writes = writes;
-  wants = wants.stays;
 }
 
 -- the counts, where the order is done

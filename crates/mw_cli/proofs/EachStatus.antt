@@ -97,7 +97,7 @@ long-or-so image verdict status line e = elim (cases_lt 16777216 (length image))
   | inr short ↦ inr (short, sym (fits image verdict short) ∙ e)
 ]
 
--- a run isn't refused for length once it fits, nor ever as a source
+-- a run of an image that fits is refused as Unbuilt alone, with the address of the first instruction that isn't built
 run-stops-at : (o : Option (ℕ × ℕ)) (output : Output) (status : Status) (line : List ℕ) → unless_unbuilt o output ≡ Refuses status line → (status ≡ Unbuilt) × ((cycle : ℕ) × (cia : ℕ) × (o ≡ Some (cycle, cia)) × (line ≡ unbuilt_line cia))
 run-stops-at None output status line e = cc
 run-stops-at (Some (cycle, cia)) output status line e = let same : status ≡ Unbuilt = cc in (same, (cycle, cia, refl, cc))

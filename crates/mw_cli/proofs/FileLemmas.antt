@@ -7,13 +7,6 @@ use Rattle.mw_io.specs.Outside.{content_of}
 abbrev pub Files : Type 0
 Files = Option (List ℕ → Option (List ℕ))
 
--- what was read is the front of the file
-pub read-front : (files later : Files) (name rest bytes : List ℕ) (n : ℕ) → later ≡ files → IfSome files (λ told. rest ≡ content_of told name) → OnSome later (bytes ≡ take (n + 1) rest) → IfSome files (λ told. bytes ≡ take (n + 1) (content_of told name))
-read-front None later name rest bytes n same start read = tt
-read-front (Some told) later name rest bytes n same start read =
-    let front : bytes ≡ take (n + 1) rest = subst (λ (o : Files). OnSome o (bytes ≡ take (n + 1) rest)) same read in
-    front ∙ ap (take (n + 1)) start
-
 -- a front within the limit is the whole file
 pub read-image : (files : Files) (name bytes : List ℕ) (n : ℕ) → IfSome files (λ told. bytes ≡ take (n + 1) (content_of told name)) → length bytes ≤ n → IfSome files (λ told. bytes ≡ content_of told name)
 read-image None name bytes n front short = tt

@@ -21,7 +21,7 @@ use Rattle.mw_cli.proofs.RunLemmas.{spelled}
 pub fits : (image : List ℕ) (verdict : Verdict) → length image ≤ 16777216 → unless_too_large image verdict ≡ verdict
 fits image verdict h = ap (λ (b : Bool). cond b (Refuses ImageTooLarge too_large_line) verdict) (le-ltb 16777216 (length image) h)
 
--- and one that is longer doesn't
+-- an image that is longer than RAM is refused
 pub too_long : (image : List ℕ) (verdict : Verdict) → 16777216 < length image → unless_too_large image verdict ≡ Refuses ImageTooLarge too_large_line
 too_long image verdict h = ap (λ (b : Bool). cond b (Refuses ImageTooLarge too_large_line) verdict) (lt-ltb 16777216 (length image) h)
 

@@ -19,7 +19,7 @@ fn carry_of(carry: Carry, operands: &Operands) -> bool
 {
     let _ = operands;
     match carry {
-        Carry::Zero => false,
+        Carry::NoCarry => false,
     }
 }
 

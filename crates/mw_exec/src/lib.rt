@@ -8,5 +8,5 @@ mod outcome;
 mod storage;
 mod unit;
 
-pub use outcome::behind_insn;
-pub use unit::{exec, is_built_row};
+pub use outcome::{behind_insn, next_of};
+pub use unit::{exec, is_built, is_built_row};

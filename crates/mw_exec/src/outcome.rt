@@ -1,6 +1,7 @@
 ghost use Rattle.std.specs.Prelude.{◌≡◌, ◌<◌};
 ghost use Rattle.mw_tables.specs.Rows.{row_count};
 ghost use Rattle.mw_isa.specs.Execute.{behind_insn, branch_to};
+ghost use Rattle.mw_isa.specs.Step.{next_of};
 
 use arrayvec::ArrayVec;
 use mw_decode::Insn;
@@ -17,6 +18,17 @@ pub fn behind_insn(insn: &Insn, cia: u64) -> u64
         PrefixKind::Mls => cia.wrapping_add(4).wrapping_add(4),
         PrefixKind::Eight => cia.wrapping_add(4).wrapping_add(4),
         PrefixKind::Nop => cia.wrapping_add(4).wrapping_add(4),
+    }
+}
+
+/// The address of the instruction that follows one with this outcome: its own next one, or that behind it.
+pub fn next_of(insn: &Insn, outcome: &Outcome, cia: u64) -> u64
+    requires { insn.now.row < row_count }
+    ensures { result ≡ next_of insn.now outcome.now cia }
+{
+    match outcome {
+        Outcome::Done { next, .. } => *next,
+        Outcome::Memory(_) => behind_insn(insn, cia),
     }
 }
 

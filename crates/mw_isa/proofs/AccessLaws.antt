@@ -1,5 +1,6 @@
 -- What is known of an access of one of its lengths.
 use Rattle.std.proofs.Common.{◌≡◌, ℕ, zero, suc, Bool, true, false, ◌&&◌, List, [], ◌∷◌, Some, slice_get, refl, sym, ap, ◌∙◌}
+use Rattle.std.proofs.lemmas.Bool.{and_parts}
 use Rattle.mw_isa.specs.declared.memory.MemWhat.{MemWhat}
 use Rattle.mw_isa.specs.declared.operation.Operation.{Operation}
 use Rattle.mw_isa.specs.declared.operation.Operation.TheVariants.{Alu, Branch, Storage, Hint, Later}
@@ -26,24 +27,14 @@ operations-sized : all_sized operations ≡ true
 unfolding operations operation_lines
 operations-sized = refl
 
--- the first of two tests that hold
-first_holds : (a b : Bool) → (a && b) ≡ true → a ≡ true
-first_holds true b e = refl
-first_holds false b e = e
-
--- and the second
-second_holds : (a b : Bool) → (a && b) ≡ true → b ≡ true
-second_holds true b e = e
-second_holds false b e = cc
-
 -- what holds of all holds at each place
 sized-at : (list : List Operation) (place : ℕ) (operation : Operation) → all_sized list ≡ true → slice_get list place ≡ Some operation → sized_operation operation ≡ true
 sized-at [] place operation all e = cc
 sized-at (first ∷ others) zero operation all e =
     let same : first ≡ operation = cc in
-    ap sized_operation (sym same) ∙ first_holds (sized_operation first) (all_sized others) all
+    ap sized_operation (sym same) ∙ (and_parts (sized_operation first) (all_sized others) all).0
 sized-at (first ∷ others) (suc place) operation all e =
-    sized-at others place operation (second_holds (sized_operation first) (all_sized others) all) e
+    sized-at others place operation (and_parts (sized_operation first) (all_sized others) all).1 e
 
 -- a row that accesses storage has one of its lengths
 pub storage-sized : (place : ℕ) (row : StorageRow) → slice_get operations place ≡ Some (Storage row) → is_sized_by row.what row.len ≡ true

@@ -151,7 +151,7 @@ reserve_behind what op before = before
 abbrev pub regs_behind : MemWhat → MemOp → ℕ → Bool → Regs → Regs
 regs_behind what op number reserved regs = record (set_targets (access_targets what op number reserved regs.xer) regs) { reserve = reserve_behind what op regs.reserve }
 
--- RAM behind an access that lies in it
+-- RAM behind an access: its bytes are laid where it stores and lies in RAM
 abbrev pub ram_behind : MemWhat → MemOp → Bool → List ℕ → List ℕ
 ram_behind what op reserved ram = if stores what reserved && is_in_ram op then laid ram (real_byte op) (stored_bytes what op) else ram
 

@@ -10,7 +10,7 @@ use Rattle.mw_isa.specs.declared.operation.Operation.{Operation}
 use Rattle.mw_isa.specs.declared.operation.Operation.TheVariants.{Alu, Branch, Storage, Hint, Later}
 use Rattle.mw_isa.specs.declared.operation.AluRow.{AluRow}
 use Rattle.mw_isa.specs.declared.operation.Carry.{Carry}
-use Rattle.mw_isa.specs.declared.operation.Carry.TheVariants.{Zero as NoCarry}
+use Rattle.mw_isa.specs.declared.operation.Carry.TheVariants.{NoCarry}
 use Rattle.mw_isa.specs.declared.operation.Ending.{Ending}
 use Rattle.mw_isa.specs.declared.operation.Ending.TheVariants.{Plain}
 use Rattle.mw_isa.specs.declared.operation.StorageRow.{StorageRow}
@@ -70,12 +70,12 @@ abbrev pub arithmetic_of : AluRow → Insn → Operands → ℕ → Outcome
 arithmetic_of row insn o cia = Done (record { items = ended row.ending (places_of (Alu row)) insn (out_of row insn o cia) }) (behind_insn insn cia)
 
 -- a sum in 64 bits
-abbrev pub sum_of : ℕ → ℕ → ℕ
-sum_of x y = (x + y) % 2 ^ 64
+abbrev pub wrapped_sum : ℕ → ℕ → ℕ
+wrapped_sum x y = (x + y) % 2 ^ 64
 
 -- the target of a branch: the displacement from 0 where AA is 1, and from the branch where it is 0
 abbrev pub target_of : ℕ → Insn → ℕ → ℕ
-target_of displacement insn cia = if insn.aa then displacement else sum_of cia displacement
+target_of displacement insn cia = if insn.aa then displacement else wrapped_sum cia displacement
 
 -- the rows that branch
 abbrev pub branch_of : BranchRow → Insn → Operands → ℕ → Outcome
@@ -84,7 +84,7 @@ branch_of B insn o cia = branch_to (target_of (b_of (places_of (Branch B)) insn 
 
 -- EA ← (RA|0) + EXTS(D), or (RA|0) + (RB), or CIA + EXTS(D)
 abbrev pub effective_of : Places → Insn → Operands → ℕ → ℕ
-effective_of places insn o cia = sum_of (a_of places insn o cia) (b_of places insn o)
+effective_of places insn o cia = wrapped_sum (a_of places insn o cia) (b_of places insn o)
 
 -- the register that is loaded, or 0 where none is
 abbrev pub loaded_of : Places → Insn → ℕ

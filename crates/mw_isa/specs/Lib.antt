@@ -1,4 +1,5 @@
--- In reading order: the state and its start; one instruction, what it does by its row, what it reads, comes to and writes; runs of events; their text and what it spells.
+-- In reading order: the state and its start; one instruction, what it does by its row, what it reads, comes to and
+-- writes; runs of events; their text and what it spells.
 pub mod Vectors
 pub mod State
 pub mod Start

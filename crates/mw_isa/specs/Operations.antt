@@ -9,7 +9,7 @@ use Rattle.mw_isa.specs.declared.operation.Operation.TheVariants.{Alu, Branch, S
 use Rattle.mw_isa.specs.declared.operation.Inputs.{Inputs}
 use Rattle.mw_isa.specs.declared.operation.Inputs.TheVariants.{BaseNumber, SourceNumber, Two, Relative}
 use Rattle.mw_isa.specs.declared.operation.Carry.{Carry}
-use Rattle.mw_isa.specs.declared.operation.Carry.TheVariants.{Zero as NoCarry}
+use Rattle.mw_isa.specs.declared.operation.Carry.TheVariants.{NoCarry}
 use Rattle.mw_isa.specs.declared.operation.Ending.{Ending}
 use Rattle.mw_isa.specs.declared.operation.Ending.TheVariants.{Plain}
 use Rattle.mw_isa.specs.declared.operation.BranchRow.TheVariants.{B}

@@ -44,7 +44,7 @@ abbrev pub FitsSlot : Slot → ℕ → Type 0
 FitsSlot (CrField n) value = value < 16
 FitsSlot slot value = ⊤
 
--- the two are one
+-- two names are of one register
 abbrev pub same_slot : Slot → Slot → Bool
 same_slot (Gpr n) (Gpr m) = n == m
 same_slot (CrField n) (CrField m) = n == m

@@ -50,7 +50,7 @@ pub enum Inputs {
 #[derive(Clone, Copy, Debug, PartialEq, Eq)]
 pub enum Carry {
     /// None.
-    Zero,
+    NoCarry,
 }
 
 /// What an arithmetic row writes beside its result.
@@ -104,8 +104,8 @@ macro_rules! alu {
 /// What each row does, in the order of the instruction table.
 #[rattlefmt::skip]
 static OPERATIONS: [Operation; 224] = [
-    alu!(Addi, BaseNumber, Zero, Plain), // addi
-    alu!(Addis, BaseNumber, Zero, Plain), // addis
+    alu!(Addi, BaseNumber, NoCarry, Plain), // addi
+    alu!(Addis, BaseNumber, NoCarry, Plain), // addis
     Operation::Later, // addic
     Operation::Later, // addic.
     Operation::Later, // subfic
@@ -114,7 +114,7 @@ static OPERATIONS: [Operation; 224] = [
     Operation::Later, // cmpli
     Operation::Later, // tdi
     Operation::Later, // twi
-    alu!(Ori, SourceNumber, Zero, Plain), // ori
+    alu!(Ori, SourceNumber, NoCarry, Plain), // ori
     Operation::Later, // oris
     Operation::Later, // xori
     Operation::Later, // xoris
@@ -147,7 +147,7 @@ static OPERATIONS: [Operation; 224] = [
     Operation::Later, // maddhd
     Operation::Later, // maddhdu
     Operation::Later, // maddld
-    alu!(Add, Two, Zero, Plain), // add
+    alu!(Add, Two, NoCarry, Plain), // add
     Operation::Later, // subf
     Operation::Later, // neg
     Operation::Later, // addc
@@ -316,7 +316,7 @@ static OPERATIONS: [Operation; 224] = [
     Operation::Later, // mtspr
     Operation::Later, // mftb
     Operation::Later, // darn
-    alu!(Paddi, Relative, Zero, Plain), // paddi
+    alu!(Paddi, Relative, NoCarry, Plain), // paddi
     Operation::Storage(StorageRow { what: MemWhat::Load { signed: false, reversed: false, reserve: false }, len: 4, address: Address::Prefixed, update: false }), // plwz
     Operation::Storage(StorageRow { what: MemWhat::Load { signed: false, reversed: false, reserve: false }, len: 1, address: Address::Prefixed, update: false }), // plbz
     Operation::Storage(StorageRow { what: MemWhat::Store { reversed: false }, len: 4, address: Address::Prefixed, update: false }), // pstw

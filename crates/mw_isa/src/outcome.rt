@@ -14,11 +14,11 @@ pub struct Target {
 /// What an instruction reads of the registers; every part but MSR is 0 where it isn't read.
 #[derive(Clone, Copy, Debug, PartialEq, Eq)]
 pub struct Operands {
-    /// The first register among the operands that is read.
+    /// The register that is read as a, as RA or RS.
     pub a: u64,
-    /// The second.
+    /// The register that is read as b, as RB.
     pub b: u64,
-    /// The third.
+    /// The register that is read as c, as that which is stored.
     pub c: u64,
     /// The condition register.
     pub cr: u32,

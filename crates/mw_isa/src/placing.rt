@@ -50,7 +50,7 @@ pub fn input_places(inputs: Inputs) -> Places
     }
 }
 
-/// Where the operands of an access stand, whose first operand is the register that it loads or stores.
+/// Where the operands of an access stand: the register that it loads or stores, if there is one, comes first.
 fn access_places(address: Address, what: MemWhat) -> Places
     ensures { result ≡ places_in (access_roles address what) }
 {

@@ -1,6 +1,7 @@
 ghost use Rattle.std.specs.Prelude.{◌≡◌, ◌^◌, ◌<◌, ◌≤◌};
-ghost use Rattle.mw_isa.specs.Slots.{field_unit, get_slot, set_slot, with_digit};
+ghost use Rattle.mw_isa.specs.Slots.{field_unit, get_slot, set_slot, set_target, set_targets, with_digit};
 
+use crate::outcome::Target;
 use crate::regs::Regs;
 use crate::slot::Slot;
 
@@ -58,5 +59,23 @@ pub fn set_slot(regs: &mut Regs, slot: Slot, value: u64)
         Slot::Lr => regs.lr = value,
         Slot::Ctr => regs.ctr = value,
         Slot::Tar => regs.tar = value,
+    }
+}
+
+/// Sets a register to the value of a target, if that is known.
+fn set_target(target: &Target, regs: &mut Regs)
+    ensures { regs.new ≡ set_target target.now regs.old }
+{
+    if let Some(value) = target.value {
+        set_slot(regs, target.slot, value);
+    }
+}
+
+/// Sets the registers of targets to their values, in order; one whose value isn't known is left.
+pub fn set_targets(targets: &[Target], regs: &mut Regs)
+    ensures { regs.new ≡ set_targets targets.now regs.old }
+{
+    for target in targets {
+        set_target(target, regs);
     }
 }

@@ -1,8 +1,9 @@
-ghost use Rattle.std.specs.Prelude.{◌≡◌, ◌≤◌};
-ghost use Rattle.mw_isa.specs.Access.{IsSized, is_aligned, is_built_access, is_exclusive, needs_ram, raises_alignment, reaches_controller};
+ghost use Rattle.std.specs.Prelude.{◌≡◌, ◌≤◌, Some};
+ghost use Rattle.mw_isa.specs.Access.{IsSized, OnMemory, is_aligned, is_built_access, is_exclusive, needs_ram, raises_alignment, reaches_controller};
+ghost use Rattle.mw_isa.specs.Step.{is_built_outcome};
 
 use crate::address::{is_in_ram, real_byte};
-use mw_isa::{MemOp, MemWhat};
+use mw_isa::{MemOp, MemWhat, Outcome};
 
 /// Whether the address of an access is a multiple of its length.
 fn is_aligned(op: &MemOp) -> bool
@@ -63,4 +64,15 @@ pub fn is_built_access(op: &MemOp) -> bool
     ensures { result ≡ is_built_access op.now }
 {
     !raises_alignment(op) && !reaches_controller(op)
+}
+
+/// Whether an outcome is built: its access is, if it has one. It can't fail.
+pub fn is_built_outcome(outcome: &Outcome) -> bool
+    requires { OnMemory IsSized outcome.now }
+    ensures { result ≡ is_built_outcome (Some outcome.now) }
+{
+    match outcome {
+        Outcome::Done { .. } => true,
+        Outcome::Memory(op) => is_built_access(op),
+    }
 }

@@ -1,13 +1,10 @@
 -- An access to storage, from what its parts gave.
-use Rattle.std.proofs.Common.{◌≡◌, ℕ, ◌+◌, ◌-◌, ◌%◌, ◌^◌, ◌<◌, ◌≤◌, ◌==◌, Bool, true, false, not, ◌&&◌, ◌||◌, cond, List, ◌++◌, length, take, drop, refl, sym, ap, ap₂, ◌∙◌, subst, arith}
-use Rattle.std.proofs.lemmas.Bool.Decides.{nat_tests}
+use Rattle.std.proofs.Common.{◌≡◌, ℕ, ◌+◌, ◌-◌, ◌%◌, ◌^◌, ◌<◌, ◌≤◌, Bool, true, cond, List, length, take, drop, sym, ap, ap₂, ◌∙◌, arith}
 use Rattle.std.proofs.lemmas.List.{take-append-drop, length-take-le, take_rest}
 use Rattle.mw_soc.specs.DeviceData.{DeviceData}
 use Rattle.mw_soc.specs.Map.{device_loaded}
 use Rattle.mw_isa.specs.declared.memory.MemOp.{MemOp}
-use Rattle.mw_isa.specs.declared.memory.MemWhat.{MemWhat}
-use Rattle.mw_isa.specs.declared.memory.MemWhat.TheVariants.{Load, Store, Conditional, Zero, Clean, Icbi}
-use Rattle.mw_isa.specs.Access.{is_in_ram, is_sized_by, is_aligned, raises_alignment, is_built_access, real_byte, load_bytes, IsSized}
+use Rattle.mw_isa.specs.Access.{is_in_ram, real_byte, load_bytes}
 use Rattle.mw_bus.specs.Memory.{bytes_at, laid, padded}
 use Rattle.mw_bus.proofs.StorageLemmas.{take-padded, length-bytes_at, laid-append}
 

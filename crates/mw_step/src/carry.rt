@@ -1,33 +1,14 @@
 ghost use Rattle.std.specs.Prelude.{◌≡◌, ◌<◌, Some};
 ghost use Rattle.mw_tables.specs.Rows.{row_count};
-ghost use Rattle.mw_isa.specs.Slots.{set_target, set_targets};
 ghost use Rattle.mw_isa.specs.State.{seen};
-ghost use Rattle.mw_isa.specs.Step.{CanFinish, after_of, next_of, step, written};
+ghost use Rattle.mw_isa.specs.Step.{CanFinish, after_of, step, written};
 ghost use Rattle.mw_step.specs.Prepared.{IsPrepared, retired};
 
 use crate::prepared::Prepared;
 use crate::storage::access;
 use mw_decode::Insn;
-use mw_exec::behind_insn;
-use mw_isa::{Event, Outcome, Regs, State, Target, set_slot};
-
-/// Writes a register with its value, if that is known.
-fn set_target(target: &Target, regs: &mut Regs)
-    ensures { regs.new ≡ set_target target.now regs.old }
-{
-    if let Some(value) = target.value {
-        set_slot(regs, target.slot, value);
-    }
-}
-
-/// Writes registers in order.
-fn set_targets(targets: &[Target], regs: &mut Regs)
-    ensures { regs.new ≡ set_targets targets.now regs.old }
-{
-    for target in targets {
-        set_target(target, regs);
-    }
-}
+use mw_exec::next_of;
+use mw_isa::{Event, Outcome, State, set_targets};
 
 /// Writes what an outcome writes.
 fn write(outcome: &Outcome, state: &mut State)
@@ -38,17 +19,6 @@ fn write(outcome: &Outcome, state: &mut State)
     match outcome {
         Outcome::Done { targets, .. } => set_targets(targets.as_slice(), &mut state.regs),
         Outcome::Memory(op) => access(op, state),
-    }
-}
-
-/// The address of the next instruction.
-fn next_of(insn: &Insn, outcome: &Outcome, cia: u64) -> u64
-    requires { insn.now.row < row_count }
-    ensures { result ≡ next_of insn.now outcome.now cia }
-{
-    match outcome {
-        Outcome::Done { next, .. } => *next,
-        Outcome::Memory(_) => behind_insn(insn, cia),
     }
 }
 

@@ -1,7 +1,6 @@
 ghost use Rattle.std.specs.Prelude.{◌≡◌, is_some};
 ghost use Rattle.mw_decode.specs.Decode.{is_prefix};
 ghost use Rattle.mw_isa.specs.Fetch.{fetched_at, suffix_at};
-ghost use Rattle.mw_isa.specs.Step.{is_cut};
 
 use crate::prepared::Fetched;
 use mw_bus::Ram;
@@ -31,11 +30,4 @@ pub fn fetch(ram: &Ram, cia: u64) -> Fetched
         word,
         suffix: suffix_at(ram, cia, word),
     }
-}
-
-/// Whether a word is a prefix at the end of a block of 64 bytes.
-pub fn is_cut(word: u32, cia: u64) -> bool
-    ensures { result ≡ is_cut word cia }
-{
-    is_prefix(word) && cia % 64 == 60
 }

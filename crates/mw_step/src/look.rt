@@ -1,35 +1,14 @@
-ghost use Rattle.std.specs.Prelude.{◌≡◌, Some, MatchOption, false};
-ghost use Rattle.mw_decode.specs.Decode.{IsInsn};
+ghost use Rattle.std.specs.Prelude.{◌≡◌, MatchOption, false};
 ghost use Rattle.mw_isa.specs.State.{seen};
-ghost use Rattle.mw_isa.specs.Access.{IsSized, OnMemory};
-ghost use Rattle.mw_isa.specs.Step.{builds, is_built, is_built_outcome};
+ghost use Rattle.mw_isa.specs.Step.{builds};
 ghost use Rattle.mw_step.specs.Prepared.{IsPrepared};
 
-use crate::fetch::{fetch, is_cut};
+use crate::fetch::fetch;
 use crate::prepared::Prepared;
-use mw_decode::{Decoded, Insn, decode};
-use mw_exec::{exec, is_built_row};
-use mw_isa::{Outcome, State, operands};
-use mw_loadstore::is_built_access;
-
-/// Whether an instruction is built: its row is, and OE, Rc and LK are 0.
-fn is_built(insn: &Insn) -> bool
-    requires { IsInsn insn.now }
-    ensures { result ≡ is_built (Decoded.Insn insn.now) }
-{
-    is_built_row(insn) && !insn.oe && !insn.rc && !insn.lk
-}
-
-/// Whether an outcome is built.
-fn is_built_outcome(outcome: &Outcome) -> bool
-    requires { OnMemory IsSized outcome.now }
-    ensures { result ≡ is_built_outcome (Some outcome.now) }
-{
-    match outcome {
-        Outcome::Done { .. } => true,
-        Outcome::Memory(op) => is_built_access(op),
-    }
-}
+use mw_decode::{Decoded, decode};
+use mw_exec::{exec, is_built};
+use mw_isa::{State, is_cut, operands};
+use mw_loadstore::is_built_outcome;
 
 /// What is known of the next instruction before anything changes: its words, what it is, and what it comes
 /// to; `None` exactly where it isn't built (Books I to III). It takes no memory.

@@ -54,8 +54,12 @@ fn lay(op: &MemOp, bytes: &[u8], ram: &mut Ram)
 {
     let at = real_byte(op);
     let front = front_len(op);
-    ram.write(at, &bytes[..front]);
-    ram.write(at + front as u64, &bytes[front..]);
+    if front < bytes.len() {
+        ram.write(at, &bytes[..front]);
+        ram.write(at + front as u64, &bytes[front..]);
+    } else {
+        ram.write(at, bytes);
+    }
 }
 
 /// Stores an access's bytes to RAM, or where RAM isn't to the device that stands there, once.

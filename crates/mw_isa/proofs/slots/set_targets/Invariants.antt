@@ -1,6 +1,6 @@
 use Rattle.std.proofs.Common.{◌≡◌, drop}
 use Rattle.mw_isa.specs.Slots.{set_targets}
-use Rattle.mw_step.proofs.carry.set_targets.Given as goal
+use Rattle.mw_isa.proofs.slots.set_targets.Given as goal
 
 -- to write what is left leaves what to write all from the start leaves
 abbrev pub invariant-loop-target : goal.invariant-loop-target
