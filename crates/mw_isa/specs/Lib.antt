@@ -3,6 +3,7 @@
 pub mod Vectors
 pub mod State
 pub mod Start
+pub mod Pages
 pub mod Fetch
 pub mod Operations
 pub mod Slots
@@ -10,7 +11,7 @@ pub mod Places
 pub mod Reads
 pub mod Execute
 pub mod Targets
-pub mod Access
+pub mod Storage
 pub mod Step
 pub mod Replay
 pub mod Unbuilt

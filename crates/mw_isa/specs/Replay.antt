@@ -6,6 +6,7 @@ use Rattle.mw_isa.specs.declared.vector.Vector.{Vector}
 use Rattle.mw_isa.specs.Vectors.{address_of}
 use Rattle.mw_isa.specs.State.{State, brought}
 use Rattle.mw_isa.specs.Start.{start}
+use Rattle.mw_isa.specs.Fetch.{word_of, suffix_of}
 use Rattle.mw_isa.specs.Step.{Raised, step, builds}
 
 -- the cycle of an event
@@ -32,7 +33,7 @@ raises (Some raised) vector = address_of raised.vector == address_of vector
 
 -- an instruction of this address, word and suffix retires there: it is built, and raises no interrupt
 abbrev pub retires : State → ℕ → ℕ → Option ℕ → Bool
-retires state cia word suffix = builds state && (not (is_some (step state).trap) && ((state.regs.cia == cia) && (((step state).word == word) && same_suffix (step state).suffix suffix)))
+retires state cia word suffix = builds state && (not (is_some (step state).trap) && ((state.regs.cia == cia) && ((word_of (step state).carried.words == word) && same_suffix (suffix_of (step state).carried.words) suffix)))
 
 -- an instruction of this address traps there to this vector
 abbrev pub traps : State → ℕ → Vector → Bool

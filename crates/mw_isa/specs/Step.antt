@@ -1,23 +1,29 @@
--- One instruction, carried out on a state whose devices stand at its cycle (Books I to III).
-use Rattle.std.specs.Prelude.{ℕ, ◌≡◌, ◌%◌, ◌==◌, Bool, true, false, not, ◌&&◌, List, [], ◌∷◌, Option, Some, None, option_and_then}
+-- One instruction, carried out on a state whose devices stand at its cycle (Books I to III): what is known of it before
+-- anything changes, the chain of what raises an interrupt, of which the first ends it, and what it leaves.
+use Rattle.std.specs.Prelude.{ℕ, ⊤, ◌≡◌, Bool, true, false, not, ◌&&◌, if◌then◌else◌, List, [], ◌∷◌, Option, Some, None, option_and_then, Result, Ok, Err}
 use Rattle.mw_decode.specs.declared.insn.Insn.{Insn}
 use Rattle.mw_decode.specs.declared.insn.Decoded.{Decoded}
 use Rattle.mw_decode.specs.declared.insn.Decoded.TheVariants.{Insn as Is, Unavailable, Alignment, Illegal}
-use Rattle.mw_decode.specs.Decode.{decode_of, is_prefix}
-use Rattle.mw_isa.specs.declared.access.Kind.TheVariants.{Fetch}
+use Rattle.mw_decode.specs.Decode.{decode_of}
 use Rattle.mw_isa.specs.declared.access.Touch.{Touch}
 use Rattle.mw_isa.specs.declared.access.Deed.{Deed}
 use Rattle.mw_isa.specs.declared.access.Deed.TheVariants.{Plain}
+use Rattle.mw_isa.specs.declared.memory.MemOp.{MemOp}
 use Rattle.mw_isa.specs.declared.outcome.Outcome.{Outcome}
 use Rattle.mw_isa.specs.declared.outcome.Outcome.TheVariants.{Done, Memory}
+use Rattle.mw_isa.specs.declared.pages.PageFault.{PageFault}
+use Rattle.mw_isa.specs.declared.pages.StorageFault.{StorageFault}
+use Rattle.mw_isa.specs.declared.pages.Stretches.{Stretches}
 use Rattle.mw_isa.specs.declared.regs.Regs.{Regs}
+use Rattle.mw_isa.specs.declared.slot.Slot.{Slot}
 use Rattle.mw_isa.specs.declared.vector.Vector.{Vector}
 use Rattle.mw_isa.specs.State.{State}
-use Rattle.mw_isa.specs.Fetch.{Fetched, fetched}
-use Rattle.mw_isa.specs.Slots.{set_targets}
+use Rattle.mw_isa.specs.Pages.{touch_of, touches_of, real_at, stretches_of}
+use Rattle.mw_isa.specs.Fetch.{Fetched, word_page, fetch_at, fetched_by, is_cut}
+use Rattle.mw_isa.specs.Slots.{get_slot, set_targets}
 use Rattle.mw_isa.specs.Reads.{operands_of}
 use Rattle.mw_isa.specs.Execute.{exec_of, behind_insn, is_built_row}
-use Rattle.mw_isa.specs.Access.{IsSized, OnMemory, accessed, is_built_access, touches_of, deed_by}
+use Rattle.mw_isa.specs.Storage.{IsSized, OnMemory, IsPlaced, pages_of, accessed, is_built_access, deed_by}
 
 -- an interrupt that an instruction raises: its vector, its cause in SRR1, and DAR and DSISR where they change
 pub record Raised : Type 0 where
@@ -26,108 +32,220 @@ pub record Raised : Type 0 where
   pub dar : Option ℕ
   pub dsisr : Option ℕ
 
--- what an instruction does: the instruction and what it comes to, where there are any; the interrupt that it
--- raises or none; its word and suffix; its accesses in order; its deed; and the state after it
-pub record Stepped : Type 0 where
+-- where an access stands: its stretches, or the fault of a page
+abbrev pub Placed : Type 0
+Placed = Result Stretches PageFault
+
+-- what an instruction carries while it is under way, each part where the one before it is there and raises nothing
+pub record UnderWay : Type 0 where
+  -- its address
+  pub cia : ℕ
+  -- the real address of its word, or the fault of its fetch
+  pub real : Result ℕ StorageFault
+  -- its words
+  pub words : Option Fetched
+  -- the instruction that they are
   pub insn : Option Insn
+  -- what it comes to
   pub outcome : Option Outcome
+  -- where its access stands
+  pub placed : Option Placed
+
+-- what an instruction does: what it carries; the interrupt that it raises or none; its accesses in order; its deed; and
+-- the state after it
+pub record Stepped : Type 0 where
+  pub carried : UnderWay
   pub trap : Option Raised
-  pub word : ℕ
-  pub suffix : Option ℕ
   pub accesses : List Touch
   pub deed : Deed
   pub after : State
 
--- the instruction that a word is, if it is one
+-- the instruction that words are, if they are one
 abbrev pub insn_in : Decoded → Option Insn
 insn_in (Is insn) = Some insn
 insn_in (Unavailable facility) = None
 insn_in (Alignment ra rb disp) = None
 insn_in Illegal = None
 
+-- what words are
+abbrev pub decoded_of : Fetched → Decoded
+decoded_of words = decode_of words.word words.suffix
+
+-- the instruction that words are, if none is cut off and they are one
+abbrev pub insn_of : Fetched → Option Insn
+insn_of words = if is_cut words then None else insn_in (decoded_of words)
+
 -- what an instruction at an address comes to, if there is one
 unfoldable pub outcome_of : Option Insn → ℕ → Regs → Option Outcome
 outcome_of insn at regs = option_and_then (λ insn. exec_of insn (operands_of insn regs) at) insn
 
--- what an outcome writes; never the instruction's address
-abbrev pub written : Outcome → State → State
-written (Done targets next) state = record state { regs = set_targets targets.items state.regs }
-written (Memory op) state = accessed op state
+-- the interrupt that the fetch raises; none does yet
+abbrev pub fetch_raises : Result ℕ StorageFault → Option Raised
+fetch_raises real = None
 
--- the address of the next instruction, from that of this one
-abbrev pub next_of : Insn → Outcome → ℕ → ℕ
-next_of insn (Done targets next) at = next
-next_of insn (Memory op) at = behind_insn insn at
+-- the interrupt that the words raise, the registers being seen so; none does yet
+abbrev pub words_raise : Fetched → (Slot → ℕ) → Option Raised
+words_raise words view = None
+
+-- the interrupt that the outcome raises before its access is placed, under MSR; none does yet
+abbrev pub outcome_raises : Outcome → ℕ → Option Raised
+outcome_raises outcome msr = None
+
+-- the interrupt that an access raises where it stands; none does yet
+abbrev pub access_raises : MemOp → Placed → Option Raised
+access_raises op placed = None
+
+-- where the access of an outcome stands, if it has one and raises nothing before
+abbrev pub placed_by : Option Raised → Outcome → Option Placed
+placed_by (Some raised) outcome = None
+placed_by None (Done targets next) = None
+placed_by None (Memory op) = Some (stretches_of real_at (pages_of op))
+
+-- where the access of an outcome under MSR stands
+abbrev pub placed_of : Outcome → ℕ → Option Placed
+placed_of outcome msr = placed_by (outcome_raises outcome msr) outcome
+
+-- what an instruction at an address carries, from its fetch and its words on
+abbrev pub under_way_of : Result ℕ StorageFault → Option Fetched → ℕ → Regs → UnderWay
+under_way_of real words at regs = record {
+  cia = at;
+  real = real;
+  words = words;
+  insn = option_and_then insn_of words;
+  outcome = outcome_of (option_and_then insn_of words) at regs;
+  placed = option_and_then (λ outcome. placed_of outcome regs.msr) (outcome_of (option_and_then insn_of words) at regs);
+}
+
+-- what the next instruction carries
+unfoldable pub under_way : State → UnderWay
+under_way state = under_way_of (fetch_at state.regs.cia) (fetched state) state.regs.cia state.regs
+
+-- of two interrupts, each of which may be there, the first
+abbrev pub earlier : Option Raised → Option Raised → Option Raised
+earlier (Some raised) later = Some raised
+earlier None later = later
+
+-- the interrupt that the access of an outcome raises
+abbrev pub place_raises : Outcome → Option Placed → Option Raised
+place_raises (Done targets next) placed = None
+place_raises (Memory op) placed = option_and_then (access_raises op) placed
+
+-- the interrupt that an outcome raises, by itself or by its access
+abbrev pub end_raises : Outcome → Option Placed → ℕ → Option Raised
+end_raises outcome placed msr = earlier (outcome_raises outcome msr) (place_raises outcome placed)
+
+-- the interrupt that an instruction raises, the registers being seen so and under MSR: the first of the fetch, of the
+-- words, of the outcome and of the access
+abbrev pub raises_of : UnderWay → (Slot → ℕ) → ℕ → Option Raised
+raises_of it view msr =
+    earlier (fetch_raises it.real) (earlier (option_and_then (λ words. words_raise words view) it.words) (option_and_then (λ outcome. end_raises outcome it.placed msr) it.outcome))
+
+-- an instruction of a row and a form that are built: it has neither OE, Rc nor LK
+abbrev pub is_built : Insn → Bool
+is_built insn = is_built_row insn && (not insn.oe && (not insn.rc && not insn.lk))
+
+-- the words were fetched, aren't cut off, and are an instruction of a row and a form that are built
+abbrev pub is_built_insn : Option Insn → Bool
+is_built_insn None = false
+is_built_insn (Some insn) = is_built insn
+
+-- an outcome that is built: its pages have no fault, and its access raises no interrupt and reaches no device that isn't
+-- built
+abbrev pub is_built_outcome : Option Outcome → Option Placed → Bool
+is_built_outcome None placed = false
+is_built_outcome (Some (Done targets next)) placed = true
+is_built_outcome (Some (Memory op)) None = false
+is_built_outcome (Some (Memory op)) (Some (Err fault)) = false
+is_built_outcome (Some (Memory op)) (Some (Ok at)) = is_built_access op at
+
+-- an instruction that is built: all that isn't stands here, beside the chain
+abbrev pub builds_by : UnderWay → Bool
+builds_by it = is_built_insn it.insn && is_built_outcome it.outcome it.placed
+
+-- the next instruction is built
+unfoldable pub builds : State → Bool
+builds state = builds_by (under_way state)
+
+-- what an outcome writes, where its access stands; never the instruction's address. A fault writes nothing
+abbrev pub written : Outcome → Option Placed → State → State
+written (Done targets next) placed state = record state { regs = set_targets targets.items state.regs }
+written (Memory op) None state = state
+written (Memory op) (Some (Err fault)) state = state
+written (Memory op) (Some (Ok at)) state = accessed op at state
+
+-- the address of the next instruction, from the registers and the address of this one
+abbrev pub next_of : Insn → Outcome → Regs → ℕ → ℕ
+next_of insn (Done targets next) regs at = next
+next_of insn (Memory op) regs at = behind_insn insn at
 
 -- a state at an instruction
 abbrev pub at_address : ℕ → State → State
 at_address at state = record state { regs = record state.regs { cia = at } }
 
--- the state that the outcome of an instruction at an address leaves; without one nothing changes
-abbrev pub after_of : Option Insn → Option Outcome → ℕ → State → State
-after_of (Some insn) (Some outcome) at state = at_address (next_of insn outcome at) (written outcome state)
-after_of (Some insn) None at state = state
-after_of None outcome at state = state
+-- the state that an instruction at an address leaves, by what it comes to; without an outcome nothing changes
+abbrev pub finished : Option Insn → Option Outcome → Option Placed → ℕ → State → State
+finished (Some insn) (Some outcome) placed at state = at_address (next_of insn outcome state.regs at) (written outcome placed state)
+finished (Some insn) None placed at state = state
+finished None outcome placed at state = state
 
--- the accesses to data of an outcome, in order
-abbrev pub data_of : Option Outcome → List Touch
-data_of None = []
-data_of (Some (Done targets next)) = []
-data_of (Some (Memory op)) = touches_of op
+-- the state that an instruction leaves. One that raises an interrupt changes nothing of what it would have changed; what
+-- the interrupt changes isn't built
+abbrev pub after_of : Option Raised → UnderWay → State → State
+after_of (Some raised) it state = state
+after_of None it state = finished it.insn it.outcome it.placed it.cia state
 
--- the deed of an outcome
-abbrev pub deed_of : Option Outcome → State → Deed
-deed_of None state = Plain
-deed_of (Some (Done targets next)) state = Plain
-deed_of (Some (Memory op)) state = deed_by op.what op state
+-- the accesses to data of an outcome that has come to them, in order; also where one of them has a fault
+abbrev pub data_of : Option Outcome → Option Placed → List Touch
+data_of (Some (Memory op)) (Some placed) = touches_of (pages_of op)
+data_of (Some (Memory op)) None = []
+data_of (Some (Done targets next)) placed = []
+data_of None placed = []
 
--- an instruction at an address, from the words that it was made of; none that is built raises an interrupt
-abbrev pub step_by : Option Insn → Option Outcome → Fetched → ℕ → State → Stepped
-step_by insn outcome words at state = record {
-  insn = insn;
-  outcome = outcome;
-  trap = None;
-  word = words.word;
-  suffix = words.suffix;
-  accesses = record { kind = Fetch; ea = at } ∷ data_of outcome;
-  deed = deed_of outcome state;
-  after = after_of insn outcome at state;
+-- what an outcome does to changed code, where its access stands
+abbrev pub deed_at : Option Outcome → Option Placed → State → Deed
+deed_at (Some (Memory op)) (Some (Ok at)) state = deed_by op.what at state
+deed_at (Some (Memory op)) (Some (Err fault)) state = Plain
+deed_at (Some (Memory op)) None state = Plain
+deed_at (Some (Done targets next)) placed state = Plain
+deed_at None placed state = Plain
+
+-- the deed of an instruction; one that raises an interrupt has none
+abbrev pub deed_of : Option Raised → UnderWay → State → Deed
+deed_of (Some raised) it state = Plain
+deed_of None it state = deed_at it.outcome it.placed state
+
+-- an instruction from what it carries, and the interrupt that it raises
+abbrev pub stepped_by : UnderWay → Option Raised → State → Stepped
+stepped_by it trap state = record {
+  carried = it;
+  trap = trap;
+  accesses = touch_of (word_page it.cia) ∷ data_of it.outcome it.placed;
+  deed = deed_of trap it state;
+  after = after_of trap it state;
 }
 
--- an instruction at an address
-abbrev pub step_of : Option Insn → Fetched → ℕ → State → Stepped
-step_of insn words at state = step_by insn (outcome_of insn at state.regs) words at state
+-- an instruction from what it carries
+abbrev pub stepped : UnderWay → State → Stepped
+stepped it state = stepped_by it (raises_of it (get_slot state.regs) state.regs.msr) state
 
--- what the words of the next instruction are
-abbrev pub decoded : State → Decoded
-decoded state = decode_of (fetched state).word (fetched state).suffix
+-- an instruction at an address, from its fetch and its words
+abbrev pub step_of : Result ℕ StorageFault → Option Fetched → ℕ → State → Stepped
+step_of real words at state = stepped (under_way_of real words at state.regs) state
 
 -- the next instruction
 unfoldable pub step : State → Stepped
-step state = step_of (insn_in (decoded state)) (fetched state) state.regs.cia state
+step state = stepped (under_way state) state
 
--- an instruction that is built: its row is, and it has neither OE, Rc nor LK
-abbrev pub is_built : Decoded → Bool
-is_built (Is insn) = is_built_row insn && (not insn.oe && (not insn.rc && not insn.lk))
-is_built (Unavailable facility) = false
-is_built (Alignment ra rb disp) = false
-is_built Illegal = false
+-- a fact on the access of an outcome, and on where it stands
+abbrev pub OnPlaced : (MemOp → Stretches → Type 0) → Outcome → Option Placed → Type 0
+OnPlaced P (Memory op) (Some (Ok at)) = P op at
+OnPlaced P (Memory op) (Some (Err fault)) = ⊤
+OnPlaced P (Memory op) None = ⊤
+OnPlaced P (Done targets next) placed = ⊤
 
--- a prefix that ends a block of 64 bytes, whose suffix would stand in the next one
-abbrev pub is_cut : ℕ → ℕ → Bool
-is_cut word at = is_prefix word && at % 64 == 60
-
--- an outcome that is built: it raises no interrupt and reaches no device that isn't built
-abbrev pub is_built_outcome : Option Outcome → Bool
-is_built_outcome None = false
-is_built_outcome (Some (Done targets next)) = true
-is_built_outcome (Some (Memory op)) = is_built_access op
-
--- what is known of an outcome that can be carried out: an access has one of its lengths, and it is built
-pub record CanFinish (outcome : Outcome) : Type 0 where
+-- what is known of an outcome that can be carried out: an access has one of its lengths, its stretches are those of its
+-- pages, and it is built
+pub record CanFinish (outcome : Outcome) (placed : Option Placed) : Type 0 where
   pub sized : OnMemory IsSized outcome
-  pub built : is_built_outcome (Some outcome) ≡ true
-
--- the next instruction is built
-unfoldable pub builds : State → Bool
-builds state = not (is_cut (fetched state).word state.regs.cia) && (is_built (decoded state) && is_built_outcome (step state).outcome)
+  pub stands : OnPlaced IsPlaced outcome placed
+  pub built : is_built_outcome (Some outcome) placed ≡ true

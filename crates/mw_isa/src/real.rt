@@ -1,22 +1,23 @@
-ghost use Rattle.std.specs.Prelude.{◌≡◌, ◌<◌, ◌^◌};
-ghost use Rattle.mw_isa.specs.Fetch.{real_of};
-ghost use Rattle.mw_isa.specs.Step.{is_cut};
+ghost use Rattle.std.specs.Prelude.{◌≡◌, ◌<◌, ◌^◌, IfOk};
+ghost use Rattle.mw_isa.specs.Pages.{real_at, real_of};
 
-use mw_decode::is_prefix;
+use crate::pages::{Page, StorageFault};
 
 /// The real address of an effective one while translation is off: its low 60 bits (Book III, real
 /// addressing).
-pub fn real_of(effective: u64) -> u64
+fn real_of(effective: u64) -> u64
     ensures value { result ≡ real_of effective }
     ensures bound { result < 2 ^ 60 }
 {
     effective % 0x1000_0000_0000_0000
 }
 
-/// Whether a word at an address is a prefix that ends a block of 64 bytes, whose suffix would stand in the
-/// next one (Book I, prefixed instructions).
-pub fn is_cut(word: u32, cia: u64) -> bool
-    ensures { result ≡ is_cut word cia }
+/// The real address of a page's first byte, below 2^60, or what is wrong with the page (Book III, address
+/// translation). Translation isn't built: the address is the low 60 bits of the effective one, and nothing
+/// is wrong.
+pub fn real_at(page: &Page) -> Result<u64, StorageFault>
+    ensures value { result ≡ real_at page.now }
+    ensures bound { IfOk result (λ at. at < 2 ^ 60) }
 {
-    is_prefix(word) && cia % 64 == 60
+    Ok(real_of(page.ea))
 }
