@@ -4,5 +4,6 @@ pub mod RowLaws
 pub mod ReadLaws
 pub mod StepLaws
 pub mod ReplayLaws
-pub mod AccessLaws
-pub mod AccessCases
+pub mod StorageLaws
+pub mod PageLaws
+pub mod StorageCases

@@ -17,7 +17,7 @@ use Rattle.mw_isa.specs.declared.place.Places.{Places}
 use Rattle.mw_isa.specs.declared.slot.Slot.{Slot}
 use Rattle.mw_isa.specs.declared.slot.Slot.TheVariants.{Gpr, CrField, Xer, Lr, Ctr, Tar}
 use Rattle.mw_isa.specs.declared.sources.Sources.{Sources}
-use Rattle.mw_isa.specs.Access.{access_targets, update_targets}
+use Rattle.mw_isa.specs.Storage.{access_targets, update_targets}
 use Rattle.mw_isa.specs.Execute.{result_at, ended, effect_of, arithmetic_of, branch_of, storage_of, branch_to, behind_insn, exec_of}
 use Rattle.mw_isa.specs.Operations.{operations}
 use Rattle.mw_isa.specs.Places.{places_of}

@@ -1,5 +1,5 @@
 -- The words that an instruction is made of (Book I, instruction fetching, prefixed instructions).
-use Rattle.std.specs.Prelude.{ℕ, ◌+◌, ◌%◌, ◌^◌, Bool, false, not, ◌&&◌, if◌then◌else◌, nat_le, List, Option, Some, None, is_some, option_map, Result, Ok, Err}
+use Rattle.std.specs.Prelude.{ℕ, ◌+◌, ◌%◌, ◌^◌, Bool, false, not, ◌&&◌, if◌then◌else◌, nat_le, List, Option, Some, None, is_some, Result, Ok, Err}
 use Rattle.std.specs.Option.{option_map_or}
 use Rattle.mw_bus.specs.Memory.{word_at}
 use Rattle.mw_decode.specs.Decode.{is_prefix}

@@ -1,6 +1,6 @@
 -- The pages of storage, and where they stand in real storage (Book III, address translation; pages of 4 KiB are this
 -- board's own choice).
-use Rattle.std.specs.Prelude.{ℕ, ◌≡◌, ◌+◌, ◌-◌, ◌%◌, ◌^◌, Bool, true, false, ◌&&◌, ◌||◌, if◌then◌else◌, nat_le, List, [], ◌∷◌, ◌++◌, take, drop, Option, Some, None, Result, Ok, Err}
+use Rattle.std.specs.Prelude.{ℕ, ◌≡◌, ◌+◌, ◌-◌, ◌%◌, ◌^◌, ◌<◌, Bool, true, ◌&&◌, if◌then◌else◌, nat_le, List, [], ◌∷◌, ◌++◌, take, drop, Option, Some, None, Result, Ok, Err, IfOk}
 use Rattle.std.specs.Option.{option_map_or}
 use Rattle.mw_bus.specs.Memory.{ram_size, bytes_at, laid}
 use Rattle.mw_isa.specs.declared.access.Kind.{Kind}
@@ -29,12 +29,17 @@ is_in_page ea len = nat_le (ea % page_size + len) page_size
 abbrev pub page_of : Kind → ℕ → ℕ → Page
 page_of kind ea len = record { kind = kind; ea = ea; len = len }
 
--- the pages of so many bytes from an address on, which go on at 0 behind the last address
+-- the one page of so many bytes from an address on
+abbrev pub one_page : Kind → ℕ → ℕ → Pages
+one_page kind ea len = record { first = page_of kind ea len; second = None }
+
+-- their two pages; they go on at 0 behind the last address
+abbrev pub two_pages : Kind → ℕ → ℕ → Pages
+two_pages kind ea len = record { first = page_of kind ea (left_of ea); second = Some (page_of kind ((ea + left_of ea) % 2 ^ 64) (len - left_of ea)) }
+
+-- their pages, in rising order of the bytes
 abbrev pub pages_from : Kind → ℕ → ℕ → Pages
-pages_from kind ea len =
-    if is_in_page ea len
-    then record { first = page_of kind ea len; second = None }
-    else record { first = page_of kind ea (left_of ea); second = Some (page_of kind ((ea + left_of ea) % 2 ^ 64) (len - left_of ea)) }
+pages_from kind ea len = if is_in_page ea len then one_page kind ea len else two_pages kind ea len
 
 -- an access to a page, of which only its first byte is told
 abbrev pub touch_of : Page → Touch
@@ -109,3 +114,7 @@ span_of stretch = record { at = stretch.at; len = stretch.len }
 -- the stretches as those of RAM, in order
 abbrev pub spans_of : Stretches → List Span
 spans_of at = span_of at.first ∷ option_map_or (λ second. span_of second ∷ []) at.second []
+
+-- what tells a page's real address gives one of 60 bits, and leaves the first byte's place in its page
+abbrev pub IsPagewise : (Page → Result ℕ StorageFault) → Type 0
+IsPagewise real = (page : Page) → IfOk (real page) (λ at. (at < 2 ^ 60) × (at % page_size ≡ page.ea % page_size))

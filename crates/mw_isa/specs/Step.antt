@@ -19,7 +19,7 @@ use Rattle.mw_isa.specs.declared.slot.Slot.{Slot}
 use Rattle.mw_isa.specs.declared.vector.Vector.{Vector}
 use Rattle.mw_isa.specs.State.{State}
 use Rattle.mw_isa.specs.Pages.{touch_of, touches_of, real_at, stretches_of}
-use Rattle.mw_isa.specs.Fetch.{Fetched, word_page, fetch_at, fetched_by, is_cut}
+use Rattle.mw_isa.specs.Fetch.{Fetched, word_page, fetch_at, fetched, is_cut}
 use Rattle.mw_isa.specs.Slots.{get_slot, set_targets}
 use Rattle.mw_isa.specs.Reads.{operands_of}
 use Rattle.mw_isa.specs.Execute.{exec_of, behind_insn, is_built_row}

@@ -29,10 +29,10 @@ pub use operation::{
     Address, AluRow, BranchRow, Carry, Ending, Inputs, Operation, StorageRow, operation_at,
 };
 pub use outcome::{Operands, Outcome, Target};
+pub use pages::{Page, PageFault, Pages, StorageFault, Stretch, Stretches};
 pub use place::Places;
 pub use placing::{operand, places_of, register};
 pub use reading::{SlotView, loaded_of, operands, reads, targets, updated_of};
-pub use pages::{Page, PageFault, Pages, StorageFault, Stretch, Stretches};
 pub use real::real_at;
 pub use regs::Regs;
 pub use slot::Slot;

@@ -1,5 +1,5 @@
 -- What is known of an access of one of its lengths.
-use Rattle.std.proofs.Common.{◌≡◌, ℕ, zero, suc, Bool, true, false, ◌&&◌, List, [], ◌∷◌, Some, slice_get, refl, sym, ap, ◌∙◌}
+use Rattle.std.proofs.Common.{◌≡◌, ℕ, zero, suc, Bool, true, ◌&&◌, List, [], ◌∷◌, Some, slice_get, refl, sym, ap, ◌∙◌}
 use Rattle.std.proofs.lemmas.Bool.{and_parts}
 use Rattle.mw_isa.specs.declared.memory.MemWhat.{MemWhat}
 use Rattle.mw_isa.specs.declared.operation.Operation.{Operation}
@@ -7,8 +7,9 @@ use Rattle.mw_isa.specs.declared.operation.Operation.TheVariants.{Alu, Branch, S
 use Rattle.mw_isa.specs.declared.operation.StorageRow.{StorageRow}
 use Rattle.mw_isa.specs.Operations.{operations, operation_lines}
 use Rattle.mw_isa.specs.declared.memory.MemOp.{MemOp}
+use Rattle.mw_isa.specs.declared.pages.Stretches.{Stretches}
 use Rattle.mw_isa.specs.State.{State}
-use Rattle.mw_isa.specs.Access.{is_sized_by, accessed, accessed_as}
+use Rattle.mw_isa.specs.Storage.{is_sized_by, accessed, accessed_as}
 
 -- the length of an operation's access, if it has one, is one of its lengths
 abbrev sized_operation : Operation → Bool
@@ -41,6 +42,6 @@ pub storage-sized : (place : ℕ) (row : StorageRow) → slice_get operations pl
 storage-sized place row e = sized-at operations place (Storage row) operations-sized e
 
 -- an access that does this leaves what such an access leaves
-pub accessed-what : (what : MemWhat) (op : MemOp) (state : State) → op.what ≡ what → accessed op state ≡ accessed_as what op state
+pub accessed-what : (what : MemWhat) (op : MemOp) (at : Stretches) (state : State) → op.what ≡ what → accessed op at state ≡ accessed_as what op at state
 unfolding accessed
-accessed-what what op state e = ap (λ (does : MemWhat). accessed_as does op state) e
+accessed-what what op at state e = ap (λ (does : MemWhat). accessed_as does op at state) e
