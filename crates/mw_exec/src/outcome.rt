@@ -5,7 +5,7 @@ ghost use Rattle.mw_isa.specs.Step.{next_of};
 
 use arrayvec::ArrayVec;
 use mw_decode::Insn;
-use mw_isa::Outcome;
+use mw_isa::{Outcome, Regs};
 use mw_tables::{PrefixKind, row_at};
 
 /// The address behind an instruction: 4 bytes on, or 8 where it has a prefix.
@@ -21,11 +21,13 @@ pub fn behind_insn(insn: &Insn, cia: u64) -> u64
     }
 }
 
-/// The address of the instruction that follows one with this outcome: its own next one, or that behind it.
-pub fn next_of(insn: &Insn, outcome: &Outcome, cia: u64) -> u64
+/// The address of the instruction that follows one with this outcome, from the registers that it finds: its
+/// own next one, or that behind it. No instruction that is built takes it from a register.
+pub fn next_of(insn: &Insn, outcome: &Outcome, regs: &Regs, cia: u64) -> u64
     requires { insn.now.row < row_count }
-    ensures { result ≡ next_of insn.now outcome.now cia }
+    ensures { result ≡ next_of insn.now outcome.now regs.now cia }
 {
+    let _ = regs;
     match outcome {
         Outcome::Done { next, .. } => *next,
         Outcome::Memory(_) => behind_insn(insn, cia),

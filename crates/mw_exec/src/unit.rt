@@ -1,6 +1,6 @@
 ghost use Rattle.std.specs.Prelude.{◌≡◌, true, Some};
 ghost use Rattle.mw_decode.specs.Decode.{IsInsn};
-ghost use Rattle.mw_isa.specs.Access.{IsSized, OnMemory};
+ghost use Rattle.mw_isa.specs.Storage.{IsSized, OnMemory};
 ghost use Rattle.mw_isa.specs.Execute.{exec_of, is_built_row};
 ghost use Rattle.mw_isa.specs.Step.{is_built};
 
@@ -8,7 +8,7 @@ use crate::arithmetic::arithmetic_of;
 use crate::branching::branch_of;
 use crate::outcome::{behind_insn, branch_to};
 use crate::storage::storage_of;
-use mw_decode::{Decoded, Insn};
+use mw_decode::Insn;
 use mw_isa::{Operands, Operation, Outcome, operation_at};
 
 /// Whether an instruction's row is built, so that `exec` can be asked.
@@ -28,7 +28,7 @@ pub fn is_built_row(insn: &Insn) -> bool
 /// Whether an instruction is built: its row is, and OE, Rc and LK are 0.
 pub fn is_built(insn: &Insn) -> bool
     requires { IsInsn insn.now }
-    ensures { result ≡ is_built (Decoded.Insn insn.now) }
+    ensures { result ≡ is_built insn.now }
 {
     is_built_row(insn) && !insn.oe && !insn.rc && !insn.lk
 }

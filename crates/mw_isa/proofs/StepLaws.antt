@@ -3,6 +3,7 @@ use Rattle.std.proofs.Common.{◌≡◌, ℕ, Bool, true, false, not, ◌&&◌, 
 use Rattle.mw_decode.specs.declared.insn.Insn.{Insn}
 use Rattle.mw_decode.specs.declared.insn.Decoded.{Decoded}
 use Rattle.mw_isa.specs.declared.event.Event.TheVariants.{Retire}
+use Rattle.mw_isa.specs.declared.fetched.Fetched.{Fetched}
 use Rattle.mw_isa.specs.declared.memory.MemOp.{MemOp}
 use Rattle.mw_isa.specs.declared.memory.MemWhat.{MemWhat}
 use Rattle.mw_isa.specs.declared.memory.MemWhat.TheVariants.{Load, Store, Conditional, Zero, Clean, Icbi}
@@ -12,7 +13,7 @@ use Rattle.mw_isa.specs.declared.pages.Stretches.{Stretches}
 use Rattle.mw_isa.specs.declared.slot.Slot.{Slot}
 use Rattle.mw_isa.specs.State.{State}
 use Rattle.mw_isa.specs.Pages.{is_in_ram}
-use Rattle.mw_isa.specs.Fetch.{Fetched, fetch_at, fetched, is_cut, word_of, suffix_of}
+use Rattle.mw_isa.specs.Fetch.{fetch_at, fetched, is_cut, word_of, suffix_of}
 use Rattle.mw_isa.specs.Slots.{get_slot}
 use Rattle.mw_isa.specs.Reads.{operands_of}
 use Rattle.mw_isa.specs.Execute.{exec_of}
@@ -20,7 +21,7 @@ use Rattle.mw_soc.specs.DeviceData.{DeviceData}
 use Rattle.mw_soc.specs.Devices.{cycle_of}
 use Rattle.mw_soc.proofs.Laws.{cycle-device_load, cycle-device_store}
 use Rattle.mw_isa.specs.Storage.{accessed, is_reserved, stores, devices_loaded, devices_stored}
-use Rattle.mw_isa.specs.Step.{Raised, Placed, UnderWay, Stepped, step, stepped, under_way, insn_in, insn_of, decoded_of, outcome_of, placed_of, written, finished, after_of, raises_of, end_raises, builds, builds_by, is_built, is_built_insn, is_built_outcome, earlier, words_raise}
+use Rattle.mw_isa.specs.Step.{IsKnown, Raised, Placed, UnderWay, Stepped, step, stepped, under_way, insn_in, insn_of, decoded_of, outcome_of, placed_of, written, finished, after_of, raises_of, end_raises, builds, builds_by, is_built, is_built_insn, is_built_outcome, earlier, words_raise}
 use Rattle.mw_isa.specs.Replay.{acted, retires, same_suffix}
 
 -- what an instruction carries that comes to an outcome
@@ -33,12 +34,6 @@ known words insn outcome state = record {
   outcome = Some outcome;
   placed = placed_of outcome state.regs.msr;
 }
-
--- what is known of the next instruction that comes to an outcome: its words, what they are, and what that comes to
-pub record IsKnown (words : Fetched) (insn : Insn) (outcome : Outcome) (state : State) : Type 0 where
-  pub words_are : fetched state ≡ Some words
-  pub insn_is : insn_of words ≡ Some insn
-  pub outcome_is : exec_of insn (operands_of insn state.regs) state.regs.cia ≡ Some outcome
 
 -- what an instruction comes to, once it is known
 outcome_of-known : (insn : Insn) (outcome : Outcome) (state : State) → exec_of insn (operands_of insn state.regs) state.regs.cia ≡ Some outcome → outcome_of (Some insn) state.regs.cia state.regs ≡ Some outcome

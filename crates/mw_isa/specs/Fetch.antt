@@ -4,6 +4,7 @@ use Rattle.std.specs.Option.{option_map_or}
 use Rattle.mw_bus.specs.Memory.{word_at}
 use Rattle.mw_decode.specs.Decode.{is_prefix}
 use Rattle.mw_isa.specs.declared.access.Kind.TheVariants.{Fetch}
+use Rattle.mw_isa.specs.declared.fetched.Fetched.{Fetched}
 use Rattle.mw_isa.specs.declared.pages.Page.{Page}
 use Rattle.mw_isa.specs.declared.pages.StorageFault.{StorageFault}
 use Rattle.mw_isa.specs.Pages.{page_of, real_at}
@@ -20,11 +21,6 @@ word_page at = page_of Fetch at 4
 -- the real address of the word at an address, or what is wrong with its page
 abbrev pub fetch_at : ℕ → Result ℕ StorageFault
 fetch_at at = real_at (word_page at)
-
--- a word, with the one behind it where it is a prefix
-pub record Fetched : Type 0 where
-  pub word : ℕ
-  pub suffix : Option ℕ
 
 -- the block of 64 bytes that a word stands in has the word behind it too
 abbrev pub has_room : ℕ → Bool

@@ -77,6 +77,10 @@ stretches_by real (Ok first) (Some page) = with_second first (stretch_of page (r
 abbrev pub stretches_of : (Page → Result ℕ StorageFault) → Pages → Result Stretches PageFault
 stretches_of real pages = stretches_by real (stretch_of pages.first (real pages.first)) pages.second
 
+-- of two stretches the first ends a page, and the second begins one
+abbrev pub MeetAtPage : Stretch → Stretch → Type 0
+MeetAtPage first second = (first.at % page_size + first.len ≡ page_size) × (second.at < 2 ^ 60) × (second.at % page_size ≡ 0)
+
 -- how many bytes the stretches have
 abbrev pub size_of : Stretches → ℕ
 size_of at = at.first.len + option_map_or (λ second. second.len) at.second 0

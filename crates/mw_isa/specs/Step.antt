@@ -8,6 +8,7 @@ use Rattle.mw_decode.specs.Decode.{decode_of}
 use Rattle.mw_isa.specs.declared.access.Touch.{Touch}
 use Rattle.mw_isa.specs.declared.access.Deed.{Deed}
 use Rattle.mw_isa.specs.declared.access.Deed.TheVariants.{Plain}
+use Rattle.mw_isa.specs.declared.fetched.Fetched.{Fetched}
 use Rattle.mw_isa.specs.declared.memory.MemOp.{MemOp}
 use Rattle.mw_isa.specs.declared.outcome.Outcome.{Outcome}
 use Rattle.mw_isa.specs.declared.outcome.Outcome.TheVariants.{Done, Memory}
@@ -19,7 +20,7 @@ use Rattle.mw_isa.specs.declared.slot.Slot.{Slot}
 use Rattle.mw_isa.specs.declared.vector.Vector.{Vector}
 use Rattle.mw_isa.specs.State.{State}
 use Rattle.mw_isa.specs.Pages.{touch_of, touches_of, real_at, stretches_of}
-use Rattle.mw_isa.specs.Fetch.{Fetched, word_page, fetch_at, fetched, is_cut}
+use Rattle.mw_isa.specs.Fetch.{word_page, fetch_at, fetched, is_cut}
 use Rattle.mw_isa.specs.Slots.{get_slot, set_targets}
 use Rattle.mw_isa.specs.Reads.{operands_of}
 use Rattle.mw_isa.specs.Execute.{exec_of, behind_insn, is_built_row}
@@ -235,6 +236,12 @@ step_of real words at state = stepped (under_way_of real words at state.regs) st
 -- the next instruction
 unfoldable pub step : State → Stepped
 step state = stepped (under_way state) state
+
+-- what is known of the next instruction that comes to an outcome: its words, what they are, and what that comes to
+pub record IsKnown (words : Fetched) (insn : Insn) (outcome : Outcome) (state : State) : Type 0 where
+  pub words_are : fetched state ≡ Some words
+  pub insn_is : insn_of words ≡ Some insn
+  pub outcome_is : exec_of insn (operands_of insn state.regs) state.regs.cia ≡ Some outcome
 
 -- a fact on the access of an outcome, and on where it stands
 abbrev pub OnPlaced : (MemOp → Stretches → Type 0) → Outcome → Option Placed → Type 0

@@ -22,7 +22,7 @@ use Rattle.mw_isa.specs.declared.outcome.Outcome.TheVariants.{Done, Memory}
 use Rattle.mw_isa.specs.declared.outcome.Target.{Target}
 use Rattle.mw_isa.specs.declared.slot.Slot.TheVariants.{Gpr, CrField}
 use Rattle.mw_isa.specs.declared.regs.Regs.{Regs}
-use Rattle.mw_isa.specs.Pages.{page_size, is_in_page, pages_from, size_of, is_in_ram, bytes_in, laid_in, spans_of}
+use Rattle.mw_isa.specs.Pages.{page_size, is_in_page, pages_from, size_of, MeetAtPage, is_in_ram, bytes_in, laid_in, spans_of}
 use Rattle.mw_isa.specs.State.{State}
 use Rattle.mw_isa.specs.Slots.{known, set_targets}
 
@@ -232,4 +232,4 @@ pub record IsPlaced (op : MemOp) (at : Stretches) : Type 0 where
   -- there are two where the bytes lie in two pages
   pub crosses : is_some at.second ≡ not (is_in_page (first_byte op) op.len)
   -- then the first ends with its page, and the second begins one
-  pub second : IfSome at.second (λ second. (at.first.at % page_size + at.first.len ≡ page_size) × (second.at < 2 ^ 60) × (second.at % page_size ≡ 0))
+  pub second : IfSome at.second (MeetAtPage at.first)

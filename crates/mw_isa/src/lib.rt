@@ -5,6 +5,7 @@
 mod access;
 mod event;
 mod events;
+mod fetched;
 mod memory;
 mod operation;
 mod outcome;
@@ -24,6 +25,7 @@ mod vector;
 pub use access::{Deed, Kind, Span, Touch};
 pub use event::{End, Event};
 pub use events::Events;
+pub use fetched::{Fetched, is_cut};
 pub use memory::{MemOp, MemWhat};
 pub use operation::{
     Address, AluRow, BranchRow, Carry, Ending, Inputs, Operation, StorageRow, operation_at,
@@ -33,7 +35,7 @@ pub use pages::{Page, PageFault, Pages, StorageFault, Stretch, Stretches};
 pub use place::Places;
 pub use placing::{operand, places_of, register};
 pub use reading::{SlotView, loaded_of, operands, reads, targets, updated_of};
-pub use real::real_at;
+pub use real::{fetch_at, real_at};
 pub use regs::Regs;
 pub use slot::Slot;
 pub use slot_set::SlotSet;

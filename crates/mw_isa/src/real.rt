@@ -1,6 +1,8 @@
 ghost use Rattle.std.specs.Prelude.{◌≡◌, ◌<◌, ◌^◌, IfOk};
+ghost use Rattle.mw_isa.specs.Fetch.{fetch_at};
 ghost use Rattle.mw_isa.specs.Pages.{real_at, real_of};
 
+use crate::access::Kind;
 use crate::pages::{Page, StorageFault};
 
 /// The real address of an effective one while translation is off: its low 60 bits (Book III, real
@@ -20,4 +22,17 @@ pub fn real_at(page: &Page) -> Result<u64, StorageFault>
     ensures bound { IfOk result (λ at. at < 2 ^ 60) }
 {
     Ok(real_of(page.ea))
+}
+
+/// The real address of the word at an effective address, below 2^60, or what is wrong with its page (Book III,
+/// address translation).
+pub fn fetch_at(cia: u64) -> Result<u64, StorageFault>
+    ensures value { result ≡ fetch_at cia }
+    ensures bound { IfOk result (λ at. at < 2 ^ 60) }
+{
+    real_at(&Page {
+        kind: Kind::Fetch,
+        ea: cia,
+        len: 4,
+    })
 }

@@ -1,2 +1,3 @@
 pub mod PieceLemmas
 pub mod BytesLemmas
+pub mod LaidLemmas

@@ -10,8 +10,8 @@ mod registers;
 mod store;
 
 pub use access::{Piece, merge, pieces};
-pub use address::{block_of, is_in_ram, real_byte};
+pub use address::{block_of, is_in_ram, pages_of};
 pub use built::{is_built_access, is_built_outcome};
 pub use load::loaded_number;
 pub use registers::{is_reserved, regs_behind};
-pub use store::{front_len, stored_bytes, stores};
+pub use store::{pieces_in, stored_bytes, stores};

@@ -1,6 +1,6 @@
 ghost use Rattle.std.specs.Prelude.{◌≡◌, ◌≤◌, length, take};
 ghost use Rattle.mw_bus.specs.Memory.{number_of};
-ghost use Rattle.mw_isa.specs.Access.{IsSized, extended, loaded_number};
+ghost use Rattle.mw_isa.specs.Storage.{IsSized, extended, loaded_number};
 
 use mw_bits::sext;
 use mw_bus::number;

@@ -1,18 +1,18 @@
 ghost use Rattle.std.specs.Prelude.{◌≡◌, ◌<◌, ◌^◌, Some, if◌then◌else◌, true};
-ghost use Rattle.mw_isa.specs.Access.{IsSized, access_targets, block_of, is_built_access, is_exclusive, is_reserved, regs_behind, reserve_behind, success_field, update_targets};
+ghost use Rattle.mw_isa.specs.Storage.{IsSized, access_targets, block_of, finding, is_built_access, is_exclusive, is_reserved, regs_behind, reserve_behind, success_field, update_targets};
 ghost use Rattle.mw_isa.specs.Slots.{set_slot, set_targets};
 ghost use Rattle.mw_isa.specs.declared.slot.Slot.TheVariants.{CrField};
 
 use crate::address::block_of;
-use mw_isa::{MemOp, MemWhat, Regs, Slot, set_slot};
+use mw_isa::{MemOp, MemWhat, Regs, Slot, Stretches, set_slot};
 
 /// Whether a reservation stands for the block of an access (Book II, reservations). It can't fail.
-pub fn is_reserved(op: &MemOp, reserve: Option<u32>) -> bool
-    ensures { result ≡ is_reserved op.now reserve }
+pub fn is_reserved(at: &Stretches, reserve: Option<u32>) -> bool
+    ensures { result ≡ is_reserved at.now reserve }
 {
     match reserve {
         None => false,
-        Some(block) => u64::from(block) == block_of(op),
+        Some(block) => u64::from(block) == block_of(at),
     }
 }
 
@@ -54,14 +54,14 @@ fn write_registers(op: &MemOp, number: u64, reserved: bool, regs: &mut Regs)
 }
 
 /// The reservation behind an access.
-fn reserve_behind(op: &MemOp, before: Option<u32>) -> Option<u32>
-    requires { is_exclusive op.now.what ≡ true → block_of op.now < 2 ^ 32 }
-    ensures { result ≡ reserve_behind op.now.what op.now before }
+fn reserve_behind(what: MemWhat, at: &Stretches, before: Option<u32>) -> Option<u32>
+    requires { is_exclusive what ≡ true → block_of at.now < 2 ^ 32 }
+    ensures { result ≡ reserve_behind what at.now before }
 {
-    match op.what {
+    match what {
         MemWhat::Load { reserve, .. } => {
             if reserve {
-                Some(block_of(op) as u32)
+                Some(block_of(at) as u32)
             } else {
                 before
             }
@@ -74,15 +74,15 @@ fn reserve_behind(op: &MemOp, before: Option<u32>) -> Option<u32>
     }
 }
 
-/// What an access makes of the registers: RT of a load, given the number that it loads, RA with update, CR
-/// field 0 of a store-conditional, given whether its block is reserved, and the reservation (Book I,
-/// fixed-point storage access; Book II, atomic update). It can't fail.
-pub fn regs_behind(op: &MemOp, number: u64, reserved: bool, regs: &mut Regs)
+/// What an access to these stretches makes of the registers: RT of a load, given the number that it loads,
+/// RA with update, CR field 0 of a store-conditional, given whether its block is reserved, and the
+/// reservation (Book I, fixed-point storage access; Book II, atomic update). It can't fail.
+pub fn regs_behind(op: &MemOp, at: &Stretches, number: u64, reserved: bool, regs: &mut Regs)
     requires sized { IsSized op.now }
-    requires built { is_built_access op.now ≡ true }
-    ensures { regs.new ≡ regs_behind op.now.what op.now number reserved regs.old }
+    requires built { is_built_access op.now at.now ≡ true }
+    ensures { regs.new ≡ regs_behind op.now.what op.now at.now (finding number reserved) regs.old }
 {
     let before = regs.reserve;
     write_registers(op, number, reserved, regs);
-    regs.reserve = reserve_behind(op, before);
+    regs.reserve = reserve_behind(op.what, at, before);
 }

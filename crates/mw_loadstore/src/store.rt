@@ -1,10 +1,10 @@
-ghost use Rattle.std.specs.Prelude.{◌≡◌, ◌+◌, ◌-◌, ◌%◌, ◌^◌, ◌≤◌, length, take, true};
-ghost use Rattle.mw_isa.specs.Access.{IsSized, real_byte, store_bytes, stored_bytes, stores};
-ghost use Rattle.mw_loadstore.specs.Pieces.{front_of};
+ghost use Rattle.std.specs.Prelude.{◌≡◌, ◌%◌, ◌^◌, ◌<◌, ◌≤◌, IfSome, length, take, true};
+ghost use Rattle.mw_isa.specs.Pages.{MeetAtPage, size_of};
+ghost use Rattle.mw_isa.specs.Storage.{IsSized, store_bytes, stored_bytes, stores};
+ghost use Rattle.mw_loadstore.specs.Pieces.{IsInBlock, pieces_in};
 
-use crate::address::real_byte;
 use mw_bus::number_bytes;
-use mw_isa::{MemOp, MemWhat};
+use mw_isa::{MemOp, MemWhat, Stretch, Stretches};
 
 /// The low bytes of a number.
 fn low_bytes(value: u64, len: u8) -> u64
@@ -75,19 +75,33 @@ pub fn stores(what: MemWhat, reserved: bool) -> bool
     }
 }
 
-/// How many of an access's bytes lie in the block of 64 bytes in which it begins: these are one piece, and
-/// the others, where there are any, lie in the next block and are a second one. It can't fail.
-pub fn front_len(op: &MemOp) -> usize
-    requires { op.now.len ≤ 64 }
-    ensures value { result ≡ front_of (real_byte op.now) op.now.len }
-    ensures part { result ≤ op.now.len }
-    ensures first { real_byte op.now % 64 + result ≤ 64 }
-    ensures second { (real_byte op.now + result) % 64 + (op.now.len - result) ≤ 64 }
+/// The stretches cut where a block of 64 bytes ends: at most two pieces, in order, each in one block. It
+/// can't fail.
+#[tactic(auto, unfolding(crate::specs::Pieces::pieces_in))]
+pub fn pieces_in(at: &Stretches) -> Stretches
+    requires few { size_of at.now ≤ 64 }
+    requires real { at.now.first.at < 2 ^ 60 }
+    requires pagewise { IfSome at.now.second (MeetAtPage at.now.first) }
+    ensures value { result ≡ pieces_in at.now }
+    ensures first { IsInBlock result.first }
+    ensures second { IfSome result.second IsInBlock }
 {
-    let room = 64 - real_byte(op) % 64;
-    if u64::from(op.len) <= room {
-        usize::from(op.len)
-    } else {
-        room as usize
+    if at.second.is_some() {
+        return *at;
+    }
+    let room = 64 - at.first.at % 64;
+    if u64::from(at.first.len) <= room {
+        return *at;
+    }
+    let front = room as u8;
+    Stretches {
+        first: Stretch {
+            at: at.first.at,
+            len: front,
+        },
+        second: Some(Stretch {
+            at: at.first.at + room,
+            len: at.first.len - front,
+        }),
     }
 }

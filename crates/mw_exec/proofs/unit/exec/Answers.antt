@@ -1,7 +1,7 @@
 use Rattle.std.proofs.Common.{sym, subst}
 use Rattle.mw_decode.proofs.Ranges.{IsInsn-row}
-use Rattle.mw_isa.specs.Access.{IsSized, OnMemory}
-use Rattle.mw_isa.proofs.AccessLaws.{storage-sized}
+use Rattle.mw_isa.specs.Storage.{IsSized, OnMemory}
+use Rattle.mw_isa.proofs.StorageLaws.{storage-sized}
 use Rattle.mw_isa.proofs.RowLaws.{registers}
 use Rattle.mw_isa.specs.declared.operation.Operation.TheVariants.{Alu, Storage}
 use Rattle.mw_exec.proofs.unit.exec.Goals as goal
