@@ -1,5 +1,6 @@
 -- What is known of the stretches in which an access stands.
-use Rattle.std.proofs.Common.{◌≡◌, ◌==◌, inl, inr, ℕ, ◌+◌, ◌-◌, ◌%◌, ◌^◌, ◌<◌, ◌≤◌, Bool, true, false, not, ◌&&◌, ◌||◌, cond, Some, None, Result, Ok, Err, IfOk, is_some, refl, sym, ap, ◌∙◌, subst, arith}
+use Rattle.std.proofs.Common.{Option, ◌≡◌, ◌==◌, inl, inr, ℕ, ◌+◌, ◌-◌, ◌%◌, ◌^◌, ◌<◌, ◌≤◌, Bool, true, false, not, ◌&&◌, ◌||◌, cond, Some, None, Result, Ok, Err, IfOk, is_some, refl, sym, ap, ◌∙◌, subst, arith}
+use Rattle.std.specs.Option.{option_map_or}
 use Rattle.std.proofs.lemmas.Bool.{eqb-true, le-leb, not-true, or_cases, true≢false}
 use Rattle.std.proofs.lemmas.Bool.Decides.{nat_tests}
 use Rattle.mw_isa.specs.declared.memory.MemOp.{MemOp}
@@ -143,3 +144,20 @@ two-across op at p two = not-true (is_in_page (first_byte op) op.len) (sym p.cro
 -- behind the alignment rules an access in two stretches is neither exclusive nor zeros, and lies in RAM
 pub two-plain : (op : MemOp) (at : Stretches) → IsSized op → IsPlaced op at → is_some at.second ≡ true → raises_alignment op at ≡ false → (is_exclusive op.what ≡ false) × (needs_ram op.what ≡ false) × (is_in_ram at ≡ true)
 two-plain op at sized p two calm = two-plain-by op.what op at sized (two-across op at p two) calm
+
+-- there is no second stretch
+none-of : (second : Option Stretch) → is_some second ≡ false → second ≡ None
+none-of None e = refl
+none-of (Some stretch) e = cc
+
+-- whether there is one or not
+single-by : (b : Bool) (op : MemOp) (at : Stretches) → IsSized op → IsPlaced op at → raises_alignment op at ≡ false → is_in_ram at ≡ false → is_some at.second ≡ b → is_some at.second ≡ false
+single-by false op at sized p calm outside e = e
+single-by true op at sized p calm outside e = absurd (true≢false (sym (two-plain op at sized p e calm).2 ∙ outside))
+
+-- behind the alignment rules an access with a byte outside RAM stands in one stretch, which has all its bytes
+pub outside-single : (op : MemOp) (at : Stretches) → IsSized op → IsPlaced op at → raises_alignment op at ≡ false → is_in_ram at ≡ false → (at.second ≡ None) × (at.first.len ≡ op.len)
+outside-single op at sized p calm outside =
+    let one = none-of at.second (single-by (is_some at.second) op at sized p calm outside refl) in
+    let whole : at.first.len + 0 ≡ op.len = ap (λ (second : Option Stretch). at.first.len + option_map_or (λ (s : Stretch). s.len) second 0) (sym one) ∙ p.size in
+    (one, omega arith)

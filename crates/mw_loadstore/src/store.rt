@@ -1,5 +1,5 @@
 ghost use Rattle.std.specs.Prelude.{◌≡◌, ◌%◌, ◌^◌, ◌<◌, ◌≤◌, IfSome, length, take, true};
-ghost use Rattle.mw_isa.specs.Pages.{MeetAtPage, size_of};
+ghost use Rattle.mw_isa.specs.Pages.{MeetAtPage, is_in_ram, size_of};
 ghost use Rattle.mw_isa.specs.Storage.{IsSized, store_bytes, stored_bytes, stores};
 ghost use Rattle.mw_loadstore.specs.Pieces.{IsInBlock, pieces_in};
 
@@ -75,14 +75,17 @@ pub fn stores(what: MemWhat, reserved: bool) -> bool
     }
 }
 
-/// The stretches cut where a block of 64 bytes ends: at most two pieces, in order, each in one block. It
+/// Stretches of RAM cut where a block of 64 bytes ends: at most two pieces, in order, each in one block. It
 /// can't fail.
 #[tactic(auto, unfolding(crate::specs::Pieces::pieces_in))]
 pub fn pieces_in(at: &Stretches) -> Stretches
     requires few { size_of at.now ≤ 64 }
-    requires real { at.now.first.at < 2 ^ 60 }
+    requires in_ram { is_in_ram at.now ≡ true }
     requires pagewise { IfSome at.now.second (MeetAtPage at.now.first) }
     ensures value { result ≡ pieces_in at.now }
+    ensures size { size_of result ≡ size_of at.now }
+    ensures real { result.first.at < 2 ^ 60 }
+    ensures other { IfSome result.second (λ second. second.at < 2 ^ 60) }
     ensures first { IsInBlock result.first }
     ensures second { IfSome result.second IsInBlock }
 {

@@ -1,71 +1,75 @@
 -- What the next instruction is, from what its parts gave.
-use Rattle.std.proofs.Common.{◌≡◌, ℕ, Bool, true, false, not, ◌&&◌, Option, Some, refl, sym, ap, ap₂, ◌∙◌}
+use Rattle.std.proofs.Common.{◌≡◌, Bool, true, false, ◌&&◌, Option, Some, None, sym, ap, ap₂, ◌∙◌}
+use Rattle.std.proofs.lemmas.Bool.{and_right}
 use Rattle.mw_decode.specs.declared.insn.Insn.{Insn}
 use Rattle.mw_decode.specs.declared.insn.Decoded.{Decoded}
 use Rattle.mw_decode.specs.declared.insn.Decoded.TheVariants.{Insn as Is}
-use Rattle.mw_decode.specs.Decode.{IsInsn, decode_of}
+use Rattle.mw_decode.specs.Decode.{IsInsn}
+use Rattle.mw_isa.specs.declared.fetched.Fetched.{Fetched}
 use Rattle.mw_isa.specs.declared.outcome.Operands.{Operands}
 use Rattle.mw_isa.specs.declared.outcome.Outcome.{Outcome}
 use Rattle.mw_isa.specs.State.{State}
-use Rattle.mw_isa.specs.Fetch.{fetched}
+use Rattle.mw_isa.specs.Fetch.{fetched, is_cut}
 use Rattle.mw_isa.specs.Reads.{operands_of}
 use Rattle.mw_isa.specs.Execute.{exec_of}
-use Rattle.mw_isa.specs.Access.{IsSized, OnMemory}
-use Rattle.mw_isa.specs.Step.{Stepped, step, decoded, builds, is_built, is_cut, is_built_outcome, after_of}
-use Rattle.mw_isa.proofs.StepLaws.{step-known, builds-known, builds-not, builds-cut}
+use Rattle.mw_isa.specs.Storage.{IsSized, OnMemory, IsPlaced}
+use Rattle.mw_isa.specs.Step.{Placed, IsKnown, OnPlaced, step, insn_in, insn_of, decoded_of, placed_of, builds, is_built, is_built_outcome, finished}
+use Rattle.mw_isa.proofs.StepLaws.{after-known, builds-known, builds-none, builds-not, insn_of-cut, insn_of-whole}
 use Rattle.mw_step.specs.declared.prepared.Prepared.{Prepared}
 use Rattle.mw_step.specs.Prepared.{IsPrepared}
 
 -- what was fetched and what it decoded to
-pub record Met (state : State) (word : ℕ) (suffix : Option ℕ) (what : Decoded) : Type 0 where
-  pub word_is : word ≡ (fetched state).word
-  pub suffix_is : suffix ≡ (fetched state).suffix
-  pub what_is : what ≡ decode_of word suffix
+pub record Met (state : State) (words : Fetched) (what : Decoded) : Type 0 where
+  pub there : fetched state ≡ Some words
+  pub whole : is_cut words ≡ false
+  pub what_is : what ≡ decoded_of words
 
--- that is the next instruction
-met : (state : State) (word : ℕ) (suffix : Option ℕ) (what : Decoded) → Met state word suffix what → decoded state ≡ what
-met state word suffix what m = sym (m.what_is ∙ ap₂ decode_of m.word_is m.suffix_is)
+-- that is the next instruction, if it is one
+met : (state : State) (words : Fetched) (what : Decoded) → Met state words what → insn_of words ≡ insn_in what
+met state words what m = insn_of-whole words what m.whole (sym m.what_is)
 
--- a prefix at the end of a block isn't built
-pub unbuilt-cut : (state : State) (word : ℕ) → word ≡ (fetched state).word → is_cut word state.regs.cia ≡ true → builds state ≡ false
-unbuilt-cut state word w cut = builds-cut state (ap (λ (n : ℕ). is_cut n state.regs.cia) (sym w) ∙ cut)
+-- a prefix that is cut off isn't built
+pub unbuilt-cut : (state : State) (words : Fetched) → fetched state ≡ Some words → is_cut words ≡ true → builds state ≡ false
+unbuilt-cut state words there cut = builds-none words state there (insn_of-cut words cut)
 
--- nor is an instruction that isn't by what it is
-pub unbuilt-word : (state : State) (word : ℕ) (suffix : Option ℕ) (what : Decoded) → Met state word suffix what → is_built what ≡ false → builds state ≡ false
-unbuilt-word state word suffix what m unbuilt = builds-not state what (met state word suffix what m) unbuilt
+-- nor are words that are no instruction
+pub unbuilt-words : (state : State) (words : Fetched) (what : Decoded) → Met state words what → insn_in what ≡ None → builds state ≡ false
+unbuilt-words state words what m none = builds-none words state m.there (met state words what m ∙ none)
+
+-- nor is an instruction of a row or a form that isn't
+pub unbuilt-insn : (state : State) (words : Fetched) (insn : Insn) → Met state words (Is insn) → is_built insn ≡ false → builds state ≡ false
+unbuilt-insn state words insn m unbuilt = builds-not words insn state m.there (met state words (Is insn) m) unbuilt
 
 -- what an instruction comes to, from the operands that were read
-executed : (state : State) (insn : Insn) (operands : Operands) (outcome : Outcome) → operands ≡ operands_of insn state.regs → exec_of insn operands state.regs.cia ≡ Some outcome → exec_of insn (operands_of insn state.regs) state.regs.cia ≡ Some outcome
-executed state insn operands outcome o e = ap (λ (v : Operands). exec_of insn v state.regs.cia) (sym o) ∙ e
+known-is : (state : State) (words : Fetched) (insn : Insn) (operands : Operands) (outcome : Outcome) → Met state words (Is insn) → operands ≡ operands_of insn state.regs → exec_of insn operands state.regs.cia ≡ Some outcome → IsKnown words insn outcome state
+known-is state words insn operands outcome m o e = record {
+  words_are = m.there;
+  insn_is = met state words (Is insn) m;
+  outcome_is = ap (λ (v : Operands). exec_of insn v state.regs.cia) (sym o) ∙ e;
+}
 
--- a test that fails behind another
-fails_behind : (a b : Bool) → b ≡ false → (a && b) ≡ false
-fails_behind true b e = e
-fails_behind false b e = refl
+-- whether it is built, from where its access stands
+built-by : (state : State) (words : Fetched) (insn : Insn) (operands : Operands) (outcome : Outcome) (placed : Option Placed) → Met state words (Is insn) → operands ≡ operands_of insn state.regs → exec_of insn operands state.regs.cia ≡ Some outcome → placed ≡ placed_of outcome state.regs.msr → builds state ≡ (is_built insn && is_built_outcome (Some outcome) placed)
+built-by state words insn operands outcome placed m o e p =
+    builds-known words insn outcome state (known-is state words insn operands outcome m o e)
+    ∙ ap (λ (v : Option Placed). is_built insn && is_built_outcome (Some outcome) v) (sym p)
 
 -- nor is one that isn't by what it comes to
-pub unbuilt-outcome : (state : State) (word : ℕ) (suffix : Option ℕ) (insn : Insn) (operands : Operands) (outcome : Outcome) → Met state word suffix (Is insn) → is_built (Is insn) ≡ true → operands ≡ operands_of insn state.regs → exec_of insn operands state.regs.cia ≡ Some outcome → is_built_outcome (Some outcome) ≡ false → builds state ≡ false
-unbuilt-outcome state word suffix insn operands outcome m built o e stopped =
-    builds-known insn outcome state (met state word suffix (Is insn) m) (executed state insn operands outcome o e)
-    ∙ fails_behind (not (is_cut (fetched state).word state.regs.cia)) _ (ap₂ (λ (a : Bool) (b : Bool). a && b) built stopped)
+pub unbuilt-outcome : (state : State) (words : Fetched) (insn : Insn) (operands : Operands) (outcome : Outcome) (placed : Option Placed) → Met state words (Is insn) → operands ≡ operands_of insn state.regs → exec_of insn operands state.regs.cia ≡ Some outcome → placed ≡ placed_of outcome state.regs.msr → is_built_outcome (Some outcome) placed ≡ false → builds state ≡ false
+unbuilt-outcome state words insn operands outcome placed m o e p stopped = built-by state words insn operands outcome placed m o e p ∙ and_right (is_built insn) _ stopped
 
 -- one that is built is prepared so
-pub prepared-is : (state : State) (prepared : Prepared) (operands : Operands) → Met state prepared.words.word prepared.words.suffix (Is prepared.insn) → is_cut prepared.words.word state.regs.cia ≡ false → is_built (Is prepared.insn) ≡ true → operands ≡ operands_of prepared.insn state.regs → exec_of prepared.insn operands state.regs.cia ≡ Some prepared.outcome → is_built_outcome (Some prepared.outcome) ≡ true → IsInsn prepared.insn → OnMemory IsSized prepared.outcome → IsPrepared prepared state
-prepared-is state prepared operands m whole built o e done is sized =
-    let d = met state prepared.words.word prepared.words.suffix (Is prepared.insn) m in
-    let x = executed state prepared.insn operands prepared.outcome o e in
-    record {
-      word = m.word_is;
-      suffix = m.suffix_is;
-      insn = d;
-      outcome = x;
-      built =
-          builds-known prepared.insn prepared.outcome state d x
-          ∙ ap₂ (λ (c : Bool) (b : Bool). not c && b) (ap (λ (n : ℕ). is_cut n state.regs.cia) (sym m.word_is) ∙ whole) (ap₂ (λ (p : Bool) (q : Bool). p && q) built done);
-      is = is;
-      can = record { sized = sized; built = done };
-    }
+pub prepared-is : (state : State) (prepared : Prepared) (operands : Operands) → Met state prepared.words (Is prepared.insn) → operands ≡ operands_of prepared.insn state.regs → exec_of prepared.insn operands state.regs.cia ≡ Some prepared.outcome → prepared.placed ≡ placed_of prepared.outcome state.regs.msr → is_built prepared.insn ≡ true → is_built_outcome (Some prepared.outcome) prepared.placed ≡ true → IsInsn prepared.insn → OnMemory IsSized prepared.outcome → OnPlaced IsPlaced prepared.outcome prepared.placed → IsPrepared prepared state
+prepared-is state prepared operands m o e p built done is sized stands = record {
+  known = known-is state prepared.words prepared.insn operands prepared.outcome m o e;
+  placed = p;
+  built = built-by state prepared.words prepared.insn operands prepared.outcome prepared.placed m o e p ∙ ap₂ (λ (a : Bool) (b : Bool). a && b) built done;
+  is = is;
+  can = record { sized = sized; stands = stands; built = done };
+}
 
 -- the step of what is prepared leaves what its outcome leaves
-pub prepared-after : (prepared : Prepared) (state : State) → IsPrepared prepared state → (step state).after ≡ after_of (Some prepared.insn) (Some prepared.outcome) state.regs.cia state
-prepared-after prepared state p = ap (λ (s : Stepped). s.after) (step-known prepared.insn prepared.outcome state p.insn p.outcome)
+pub prepared-after : (prepared : Prepared) (state : State) → IsPrepared prepared state → (step state).after ≡ finished (Some prepared.insn) (Some prepared.outcome) prepared.placed state.regs.cia state
+prepared-after prepared state p =
+    after-known prepared.words prepared.insn prepared.outcome state p.known
+    ∙ ap (λ (v : Option Placed). finished (Some prepared.insn) (Some prepared.outcome) v state.regs.cia state) (sym p.placed)

@@ -1,36 +1,61 @@
 -- An access to storage, from what its parts gave.
-use Rattle.std.proofs.Common.{◌≡◌, ℕ, ◌+◌, ◌-◌, ◌%◌, ◌^◌, ◌<◌, ◌≤◌, Bool, true, cond, List, length, take, drop, sym, ap, ap₂, ◌∙◌, arith}
-use Rattle.std.proofs.lemmas.List.{take-append-drop, length-take-le, take_rest}
+use Rattle.std.proofs.Common.{◌≡◌, ℕ, ◌+◌, ◌-◌, ◌%◌, ◌≤◌, Bool, true, false, not, cond, List, ◌++◌, length, take, replicate, Option, Some, None, sym, ap, ap₂, ◌∙◌, arith}
+use Rattle.std.specs.Option.{option_map_or}
+use Rattle.std.proofs.lemmas.Bool.{and_parts, leb-true, not-true}
+use Rattle.std.proofs.lemmas.List.{length-append}
+use Rattle.std.proofs.Math.Seq.{take-append_seam}
+use Rattle.mw_bus.specs.Memory.{ram_size, bytes_at, padded}
+use Rattle.mw_bus.proofs.StorageLemmas.{take-padded, length-bytes_at}
 use Rattle.mw_soc.specs.DeviceData.{DeviceData}
 use Rattle.mw_soc.specs.Map.{device_loaded}
+use Rattle.mw_soc.proofs.Laws.{length-device_loaded}
 use Rattle.mw_isa.specs.declared.memory.MemOp.{MemOp}
-use Rattle.mw_isa.specs.Access.{is_in_ram, real_byte, load_bytes}
-use Rattle.mw_bus.specs.Memory.{bytes_at, laid, padded}
-use Rattle.mw_bus.proofs.StorageLemmas.{take-padded, length-bytes_at, laid-append}
+use Rattle.mw_isa.specs.declared.pages.Stretch.{Stretch}
+use Rattle.mw_isa.specs.declared.pages.Stretches.{Stretches}
+use Rattle.mw_isa.specs.Pages.{size_of, is_ram, is_in_ram, bytes_by, bytes_in, laid_in}
+use Rattle.mw_isa.specs.Storage.{IsSized, IsPlaced, raises_alignment, reaches_controller, is_built_access, load_bytes}
+use Rattle.mw_isa.proofs.PageLaws.{outside-single}
+use Rattle.mw_loadstore.specs.Pieces.{pieces_in}
+use Rattle.mw_loadstore.proofs.LaidLemmas.{pieces_in-laid}
 
--- bytes that were read from RAM
-bytes-read : (ram : List ℕ) (at real k len : ℕ) (bytes : List ℕ) → at ≡ real → k ≡ len → bytes ≡ padded (bytes_at ram at k) → take len bytes ≡ bytes_at ram real len
-bytes-read ram at real k len bytes same sized read =
-    ap₂ take (sym sized) read ∙ take-padded (bytes_at ram at k) k (length-bytes_at ram at k) ∙ ap₂ (bytes_at ram) same sized
+-- the bytes of one read that are handed on
+part-read : (ram : List ℕ) (at k n len : ℕ) (bytes : List ℕ) → k ≡ len → n ≡ len → bytes ≡ padded (bytes_at ram at k) → take n bytes ≡ bytes_at ram at len
+part-read ram at k n len bytes sized front read =
+    ap₂ take (front ∙ sym sized) read ∙ take-padded (bytes_at ram at k) k (length-bytes_at ram at k) ∙ ap (bytes_at ram at) sized
+
+-- two reads, one behind the other
+pub two-read : (ram front back : List ℕ) (at : Stretches) (second : Stretch) (j k m n : ℕ) → at.second ≡ Some second → j ≡ at.first.len → m ≡ at.first.len → front ≡ padded (bytes_at ram at.first.at j) → k ≡ second.len → n ≡ second.len → back ≡ padded (bytes_at ram second.at k) → padded (take m front ++ take n back) ≡ padded (bytes_in ram at)
+two-read ram front back at second j k m n there j_is m_is first k_is n_is other =
+    ap₂ (λ (xs ys : List ℕ). padded (xs ++ ys)) (part-read ram at.first.at j m at.first.len front j_is m_is first) (part-read ram second.at k n second.len back k_is n_is other)
+    ∙ ap (λ (o : Option Stretch). padded (bytes_by ram at.first o)) (sym there)
+
+-- the stretches' bytes are as many as they have
+length-bytes_by : (ram : List ℕ) (first : Stretch) (second : Option Stretch) → length (bytes_by ram first second) ≡ size_of (record { first = first; second = second })
+length-bytes_by ram first None = length-bytes_at ram first.at first.len ∙ omega arith
+length-bytes_by ram first (Some second) =
+    length-append (bytes_at ram first.at first.len) (bytes_at ram second.at second.len)
+    ∙ ap₂ (λ (m n : ℕ). m + n) (length-bytes_at ram first.at first.len) (length-bytes_at ram second.at second.len)
 
 -- they are those of a load where RAM is
-pub load-there : (op : MemOp) (ram : List ℕ) (devices : DeviceData) (at k : ℕ) (bytes : List ℕ) → at ≡ real_byte op → k ≡ op.len → bytes ≡ padded (bytes_at ram at k) → true ≡ is_in_ram op → take op.len bytes ≡ load_bytes op ram devices
-load-there op ram devices at k bytes same sized read there =
-    bytes-read ram at (real_byte op) k op.len bytes same sized read
-    ∙ ap (λ (b : Bool). cond b (bytes_at ram (real_byte op) op.len) (take op.len (device_loaded devices (real_byte op) op.len))) there
+pub load-there : (ram bytes : List ℕ) (op : MemOp) (at : Stretches) (devices : DeviceData) → size_of at ≡ op.len → bytes ≡ padded (bytes_in ram at) → true ≡ is_in_ram at → take op.len bytes ≡ load_bytes at ram devices
+load-there ram bytes op at devices sized read there =
+    ap₂ take (sym sized) read
+    ∙ take-padded (bytes_in ram at) (size_of at) (length-bytes_by ram at.first at.second)
+    ∙ ap (λ (b : Bool). cond b (bytes_in ram at) (device_loaded devices at.first.at at.first.len)) there
 
--- bytes that are laid in two pieces
-pieces-laid : (ram : List ℕ) (at front : ℕ) (bytes : List ℕ) → at + length bytes < 2 ^ 60 → front ≤ length bytes → laid (laid ram at (take front bytes)) (at + front) (drop front bytes) ≡ laid ram at bytes
-pieces-laid ram at front bytes below part =
-    let low : at < 2 ^ 60 = omega arith in
-    let sized : length (take front bytes) ≡ front = length-take-le front bytes part in
-    let place : (at + length (take front bytes)) % 2 ^ 60 ≡ at + front = ap (λ (n : ℕ). (at + n) % 2 ^ 60) sized ∙ omega arith in
-    sym (ap (laid ram at) (sym (take-append-drop front bytes)) ∙ laid-append ram at (take front bytes) (drop front bytes) low ∙ ap (λ (n : ℕ). laid (laid ram at (take front bytes)) n (drop front bytes)) place)
+-- and where RAM isn't, they are a device's
+pub load-elsewhere : (ram bytes : List ℕ) (op : MemOp) (at : Stretches) (devices : DeviceData) → IsSized op → IsPlaced op at → is_built_access op at ≡ true → at.first.at % 8 + at.first.len ≤ 8 → bytes ≡ device_loaded devices at.first.at at.first.len ++ replicate (8 - at.first.len) 0 → false ≡ is_in_ram at → take op.len bytes ≡ load_bytes at ram devices
+load-elsewhere ram bytes op at devices sized p built fits loaded outside =
+    let calm = not-true (raises_alignment op at) (and_parts (not (raises_alignment op at)) (not (reaches_controller at)) built).0 in
+    let one = outside-single op at sized p calm (sym outside) in
+    let long = length-device_loaded devices at.first.at at.first.len fits in
+    ap₂ take (sym one.1 ∙ sym long) loaded
+    ∙ take-append_seam (device_loaded devices at.first.at at.first.len) (replicate (8 - at.first.len) 0)
+    ∙ ap (λ (b : Bool). cond b (bytes_in ram at) (device_loaded devices at.first.at at.first.len)) outside
 
--- so are those that the code laid
-pub laid-pieces : (ram one two : List ℕ) (at real front : ℕ) (bytes : List ℕ) → at ≡ real → at + length bytes < 2 ^ 60 → front ≤ length bytes → one ≡ laid ram at (take front bytes) → two ≡ laid one (at + front) (take (length bytes - front) (drop front bytes)) → two ≡ laid ram real bytes
-laid-pieces ram one two at real front bytes same below part first second =
-    second
-    ∙ ap₂ (λ (x : List ℕ) (y : List ℕ). laid x (at + front) y) first (take_rest bytes front)
-    ∙ pieces-laid ram at front bytes below part
-    ∙ ap (λ (n : ℕ). laid ram n bytes) same
+-- bytes that are laid in RAM by pieces
+pub lay-pieces : (ram bytes : List ℕ) (op : MemOp) (at pieces : Stretches) → length bytes ≡ op.len → op.len ≤ 64 → IsPlaced op at → is_in_ram at ≡ true → pieces ≡ pieces_in at → laid_in ram pieces bytes ≡ laid_in ram at bytes
+lay-pieces ram bytes op at pieces sized few p there are =
+    let inside = leb-true (at.first.at + at.first.len) ram_size (and_parts (is_ram at.first) (option_map_or is_ram at.second true) there).0 in
+    ap (λ (s : Stretches). laid_in ram s bytes) are
+    ∙ pieces_in-laid ram at bytes (omega arith) (λ none. sized ∙ sym p.size ∙ ap (λ (o : Option Stretch). at.first.len + option_map_or (λ (s : Stretch). s.len) o 0) none ∙ omega arith)

@@ -1,36 +1,40 @@
 ghost use Rattle.std.specs.Prelude.{◌≡◌, ◌<◌, Some};
 ghost use Rattle.mw_tables.specs.Rows.{row_count};
 ghost use Rattle.mw_isa.specs.State.{seen};
-ghost use Rattle.mw_isa.specs.Step.{CanFinish, after_of, step, written};
+ghost use Rattle.mw_isa.specs.Step.{CanFinish, finished, step, written};
 ghost use Rattle.mw_step.specs.Prepared.{IsPrepared, retired};
 
 use crate::prepared::Prepared;
 use crate::storage::access;
-use mw_decode::Insn;
 use mw_exec::next_of;
-use mw_isa::{Event, Outcome, State, set_targets};
+use mw_isa::{Event, Outcome, PageFault, State, Stretches, set_targets};
 
-/// Writes what an outcome writes.
-fn write(outcome: &Outcome, state: &mut State)
-    requires { CanFinish outcome.now }
-    ensures value { seen state.new ≡ written outcome.now (seen state.old) }
+/// Writes what an outcome writes, where its access stands.
+fn write(outcome: &Outcome, placed: &Option<Result<Stretches, PageFault>>, state: &mut State)
+    requires { CanFinish outcome.now placed.now }
+    ensures value { seen state.new ≡ written outcome.now placed.now (seen state.old) }
     ensures room { state.new.devices.room ≡ state.old.devices.room }
 {
     match outcome {
         Outcome::Done { targets, .. } => set_targets(targets.as_slice(), &mut state.regs),
-        Outcome::Memory(op) => access(op, state),
+        Outcome::Memory(op) => match placed {
+            None => {}
+            Some(Err(_)) => {}
+            Some(Ok(at)) => access(op, at, state),
+        },
     }
 }
 
 /// Leaves the state behind an instruction at an address.
-fn finish(insn: &Insn, outcome: &Outcome, cia: u64, state: &mut State)
-    requires row { insn.now.row < row_count }
-    requires can { CanFinish outcome.now }
-    ensures value { seen state.new ≡ after_of (Some insn.now) (Some outcome.now) cia (seen state.old) }
+fn finish(prepared: &Prepared, cia: u64, state: &mut State)
+    requires row { prepared.now.insn.row < row_count }
+    requires can { CanFinish prepared.now.outcome prepared.now.placed }
+    ensures value { seen state.new ≡ finished (Some prepared.now.insn) (Some prepared.now.outcome) prepared.now.placed cia (seen state.old) }
     ensures room { state.new.devices.room ≡ state.old.devices.room }
 {
-    write(outcome, state);
-    state.regs.cia = next_of(insn, outcome, cia);
+    let next = next_of(&prepared.insn, &prepared.outcome, &state.regs, cia);
+    write(&prepared.outcome, &prepared.placed, state);
+    state.regs.cia = next;
 }
 
 /// Carries out the next instruction, as it was prepared, at the devices' cycle: the state is then the one
@@ -43,7 +47,7 @@ pub fn carry_out(state: &mut State, prepared: &Prepared) -> Event
 {
     let cia = state.regs.cia;
     let cycle = state.devices.cycle();
-    finish(&prepared.insn, &prepared.outcome, cia, state);
+    finish(prepared, cia, state);
     Event::Retire {
         cycle,
         cia,

@@ -5,9 +5,11 @@
 mod carry;
 mod fetch;
 mod look;
+mod place;
 mod prepared;
 mod storage;
 
 pub use carry::carry_out;
 pub use look::prepare;
-pub use prepared::{Fetched, Prepared};
+pub use prepared::Prepared;
+pub use storage::{read, write};

@@ -4,20 +4,23 @@ ghost use Rattle.mw_isa.specs.Step.{builds};
 ghost use Rattle.mw_step.specs.Prepared.{IsPrepared};
 
 use crate::fetch::fetch;
+use crate::place::placed_of;
 use crate::prepared::Prepared;
 use mw_decode::{Decoded, decode};
 use mw_exec::{exec, is_built};
 use mw_isa::{State, is_cut, operands};
 use mw_loadstore::is_built_outcome;
 
-/// What is known of the next instruction before anything changes: its words, what it is, and what it comes
-/// to; `None` exactly where it isn't built (Books I to III). It takes no memory.
+/// What is known of the next instruction before anything changes: its words, what it is, what it comes to,
+/// and where its access stands; `None` exactly where it isn't built (Books I to III). It takes no memory.
 pub fn prepare(state: &State) -> Option<Prepared>
     ensures { MatchOption result (builds (seen state.now) ≡ false) (λ prepared. IsPrepared prepared (seen state.now)) }
 {
     let cia = state.regs.cia;
-    let words = fetch(&state.ram, cia);
-    if is_cut(words.word, cia) {
+    let Some(words) = fetch(&state.ram, cia) else {
+        return None;
+    };
+    if is_cut(&words) {
         return None;
     }
     let insn = match decode(words.word, words.suffix) {
@@ -30,12 +33,14 @@ pub fn prepare(state: &State) -> Option<Prepared>
         return None;
     }
     let outcome = exec(&insn, &operands(&insn, &state.regs, state.regs.msr), cia);
-    if !is_built_outcome(&outcome) {
+    let placed = placed_of(&outcome, state.regs.msr);
+    if !is_built_outcome(&outcome, &placed) {
         return None;
     }
     Some(Prepared {
         words,
         insn,
         outcome,
+        placed,
     })
 }

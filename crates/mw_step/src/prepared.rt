@@ -1,14 +1,5 @@
 use mw_decode::Insn;
-use mw_isa::Outcome;
-
-/// A word, with the one behind it where it is a prefix.
-#[derive(Clone, Copy)]
-pub struct Fetched {
-    /// The word.
-    pub word: u32,
-    /// The word behind a prefix.
-    pub suffix: Option<u32>,
-}
+use mw_isa::{Fetched, Outcome, PageFault, Stretches};
 
 /// What is known of the next instruction before anything changes.
 #[derive(Drop)]
@@ -19,4 +10,6 @@ pub struct Prepared {
     pub insn: Insn,
     /// What it comes to.
     pub outcome: Outcome,
+    /// Where its access stands, if it has one: its stretches, or the fault of a page.
+    pub placed: Option<Result<Stretches, PageFault>>,
 }

@@ -1,40 +1,82 @@
-ghost use Rattle.std.specs.Prelude.{◌≡◌, ◌+◌, ◌%◌, ◌≤◌, false, length, take, true};
-ghost use Rattle.mw_bus.specs.Memory.{laid};
-ghost use Rattle.mw_isa.specs.Access.{IsSized, accessed, devices_loaded, devices_stored, is_built_access, is_in_ram, load_bytes, loaded_number, ram_behind, real_byte};
+ghost use Rattle.std.specs.Prelude.{◌≡◌, ◌+◌, ◌^◌, ◌<◌, ◌≤◌, IfSome, length, take, true};
+ghost use Rattle.mw_bus.specs.Memory.{padded};
+ghost use Rattle.mw_isa.specs.Pages.{bytes_in, is_in_ram, laid_in, size_of};
 ghost use Rattle.mw_isa.specs.State.{seen};
+ghost use Rattle.mw_isa.specs.Storage.{IsPlaced, IsSized, accessed, devices_loaded, devices_stored, is_built_access, load_bytes, loaded_number, ram_behind};
 
 use mw_bus::Ram;
-use mw_isa::{MemOp, MemWhat, State};
+use mw_isa::{MemOp, MemWhat, State, Stretches};
 use mw_loadstore::{
-    front_len, is_in_ram, is_reserved, loaded_number, real_byte, regs_behind, stored_bytes, stores,
+    is_in_ram, is_reserved, loaded_number, merge, pieces_in, regs_behind, stored_bytes, stores,
 };
 use mw_soc::Devices;
 
-/// The bytes that a load gives, with something behind them: RAM's, or a device's, which is loaded once.
-fn load_bytes(op: &MemOp, ram: &Ram, devices: &mut Devices) -> [u8; 8]
-    requires some { 1 ≤ op.now.len }
-    requires few { op.now.len ≤ 8 }
-    requires one_slot { is_in_ram op.now ≡ false → real_byte op.now % 8 + op.now.len ≤ 8 }
-    ensures bytes { take op.now.len result ≡ load_bytes op.now ram.now devices.old.devices }
-    ensures after { devices.new ≡ record devices.old { devices = devices_loaded (MemWhat.Load true true true) op.now devices.old.devices } }
+/// The bytes of stretches of at most 8 bytes, one behind the other, and zeros behind them up to 8. A byte
+/// where RAM isn't reads as all ones. It can't fail.
+pub fn read(at: &Stretches, ram: &Ram) -> [u8; 8]
+    requires few { size_of at.now ≤ 8 }
+    requires real { at.now.first.at < 2 ^ 60 }
+    requires other { IfSome at.now.second (λ second. second.at < 2 ^ 60) }
+    ensures { result ≡ padded (bytes_in ram.now at.now) }
 {
-    if is_in_ram(op) {
-        ram.read(real_byte(op), usize::from(op.len))
+    let front = ram.read(at.first.at, usize::from(at.first.len));
+    match at.second {
+        None => front,
+        Some(second) => {
+            let back = ram.read(second.at, usize::from(second.len));
+            merge(
+                &front[..usize::from(at.first.len)],
+                &back[..usize::from(second.len)],
+            )
+        }
+    }
+}
+
+/// Stores bytes to stretches, one behind the other, and changes no other byte. A byte is lost where RAM
+/// isn't. It can't fail.
+pub fn write(at: &Stretches, bytes: &[u8], ram: &mut Ram)
+    requires size { length bytes.now ≡ size_of at.now }
+    requires real { at.now.first.at < 2 ^ 60 }
+    requires other { IfSome at.now.second (λ second. second.at < 2 ^ 60) }
+    ensures { ram.new ≡ laid_in ram.old at.now bytes.now }
+{
+    match at.second {
+        None => ram.write(at.first.at, bytes),
+        Some(second) => {
+            let (front, back) = bytes.split_at(usize::from(at.first.len));
+            ram.write(at.first.at, front);
+            ram.write(second.at, back);
+        }
+    }
+}
+
+/// The bytes that a load gives, with something behind them: RAM's, or a device's, which is loaded once.
+fn load_bytes(op: &MemOp, at: &Stretches, ram: &Ram, devices: &mut Devices) -> [u8; 8]
+    requires sized { IsSized op.now }
+    requires few { op.now.len ≤ 8 }
+    requires stands { IsPlaced op.now at.now }
+    requires built { is_built_access op.now at.now ≡ true }
+    ensures bytes { take op.now.len result ≡ load_bytes at.now ram.now devices.old.devices }
+    ensures after { devices.new ≡ record devices.old { devices = devices_loaded (MemWhat.Load true true true) at.now devices.old.devices } }
+{
+    if is_in_ram(at) {
+        read(at, ram)
     } else {
-        devices.load(real_byte(op), op.len)
+        devices.load(at.first.at, at.first.len)
     }
 }
 
 /// The number that an access loads, and 0 where it loads nothing.
-fn load(op: &MemOp, ram: &Ram, devices: &mut Devices) -> u64
+fn load(op: &MemOp, at: &Stretches, ram: &Ram, devices: &mut Devices) -> u64
     requires sized { IsSized op.now }
-    requires built { is_built_access op.now ≡ true }
-    ensures value { result ≡ loaded_number op.now.what op.now.len (load_bytes op.now ram.now devices.old.devices) }
-    ensures after { devices.new ≡ record devices.old { devices = devices_loaded op.now.what op.now devices.old.devices } }
+    requires stands { IsPlaced op.now at.now }
+    requires built { is_built_access op.now at.now ≡ true }
+    ensures value { result ≡ loaded_number op.now.what op.now.len (load_bytes at.now ram.now devices.old.devices) }
+    ensures after { devices.new ≡ record devices.old { devices = devices_loaded op.now.what at.now devices.old.devices } }
 {
     match op.what {
         MemWhat::Load { .. } => {
-            let bytes = load_bytes(op, ram, devices);
+            let bytes = load_bytes(op, at, ram, devices);
             loaded_number(op, &bytes)
         }
         MemWhat::Store { .. } => 0,
@@ -45,51 +87,47 @@ fn load(op: &MemOp, ram: &Ram, devices: &mut Devices) -> u64
     }
 }
 
-/// Lays an access's bytes in RAM, a piece for each block of 64 bytes.
-fn lay(op: &MemOp, bytes: &[u8], ram: &mut Ram)
-    requires len { length bytes.now ≡ op.now.len }
+/// Lays bytes in stretches of RAM, a piece for each block of 64 bytes.
+fn lay(op: &MemOp, at: &Stretches, bytes: &[u8], ram: &mut Ram)
+    requires size { length bytes.now ≡ op.now.len }
     requires few { op.now.len ≤ 64 }
-    requires in_ram { is_in_ram op.now ≡ true }
-    ensures { ram.new ≡ laid ram.old (real_byte op.now) bytes.now }
+    requires stands { IsPlaced op.now at.now }
+    requires in_ram { is_in_ram at.now ≡ true }
+    ensures { ram.new ≡ laid_in ram.old at.now bytes.now }
 {
-    let at = real_byte(op);
-    let front = front_len(op);
-    if front < bytes.len() {
-        ram.write(at, &bytes[..front]);
-        ram.write(at + front as u64, &bytes[front..]);
-    } else {
-        ram.write(at, bytes);
-    }
+    write(&pieces_in(at), bytes, ram);
 }
 
 /// Stores an access's bytes to RAM, or where RAM isn't to the device that stands there, once.
-fn store(op: &MemOp, reserved: bool, ram: &mut Ram, devices: &mut Devices)
+fn store(op: &MemOp, at: &Stretches, reserved: bool, ram: &mut Ram, devices: &mut Devices)
     requires sized { IsSized op.now }
-    requires built { is_built_access op.now ≡ true }
-    ensures ram { ram.new ≡ ram_behind op.now.what op.now reserved ram.old }
-    ensures devices { devices.new ≡ record devices.old { devices = devices_stored op.now.what op.now reserved devices.old.devices } }
+    requires stands { IsPlaced op.now at.now }
+    requires built { is_built_access op.now at.now ≡ true }
+    ensures ram { ram.new ≡ ram_behind op.now.what op.now at.now reserved ram.old }
+    ensures devices { devices.new ≡ record devices.old { devices = devices_stored op.now.what op.now at.now reserved devices.old.devices } }
 {
     if stores(op.what, reserved) {
         let bytes = stored_bytes(op);
         let bytes = &bytes[..usize::from(op.len)];
-        if is_in_ram(op) {
-            lay(op, bytes, ram);
+        if is_in_ram(at) {
+            lay(op, at, bytes, ram);
         } else {
-            devices.store(real_byte(op), bytes);
+            devices.store(at.first.at, bytes);
         }
     }
 }
 
-/// Carries out an access that is built.
-#[tactic(auto, unfolding(mw_isa::specs::Access::accessed))]
-pub fn access(op: &MemOp, state: &mut State)
+/// Carries out an access to these stretches that is built.
+#[tactic(auto, unfolding(mw_isa::specs::Storage::accessed))]
+pub fn access(op: &MemOp, at: &Stretches, state: &mut State)
     requires sized { IsSized op.now }
-    requires built { is_built_access op.now ≡ true }
-    ensures value { seen state.new ≡ accessed op.now (seen state.old) }
+    requires stands { IsPlaced op.now at.now }
+    requires built { is_built_access op.now at.now ≡ true }
+    ensures value { seen state.new ≡ accessed op.now at.now (seen state.old) }
     ensures room { state.new.devices.room ≡ state.old.devices.room }
 {
-    let reserved = is_reserved(op, state.regs.reserve);
-    let number = load(op, &state.ram, &mut state.devices);
-    store(op, reserved, &mut state.ram, &mut state.devices);
-    regs_behind(op, number, reserved, &mut state.regs);
+    let reserved = is_reserved(at, state.regs.reserve);
+    let number = load(op, at, &state.ram, &mut state.devices);
+    store(op, at, reserved, &mut state.ram, &mut state.devices);
+    regs_behind(op, at, number, reserved, &mut state.regs);
 }
