@@ -14,4 +14,6 @@ mod runs;
 #[cfg(test)]
 mod storage;
 #[cfg(test)]
+mod stretches;
+#[cfg(test)]
 mod trace;
