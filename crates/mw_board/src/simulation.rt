@@ -2,6 +2,7 @@ ghost use Rattle.std.specs.Prelude.{◌≡◌, ◌≤◌, ◌<◌, ◌↔◌, le
 ghost use Rattle.std.specs.List.{range_with_len};
 ghost use Rattle.mw_bus.specs.Memory.{ram_size};
 ghost use Rattle.mw_isa.specs.State.{seen};
+ghost use Rattle.mw_isa.specs.Start.{boot_of};
 ghost use Rattle.mw_isa.specs.Replay.{cycles_of};
 ghost use Rattle.mw_isa.specs.Runs.{Runs};
 ghost use Rattle.mw_isa.specs.Unbuilt.{first_unbuilt};
@@ -10,7 +11,7 @@ ghost use Rattle.mw_board.specs.Faults.{HasCause};
 use crate::run::{Run, RunFault};
 use crate::turn::turned;
 use mw_bus::{RAM_SIZE, Ram};
-use mw_isa::{End, Events, Regs, State};
+use mw_isa::{End, Events, State};
 use mw_soc::Devices;
 use std::alloc::Global;
 
@@ -19,10 +20,10 @@ use std::alloc::Global;
 /// is reached below cycle `n`, or memory is wanting.
 pub fn simulate(alloc: Global, image: &[u8], n: u64) -> Result<Run, RunFault>
     requires { n ≤ 4000000 }
-    ensures runs { IfOk result (λ run. Runs image.now n run.events run.end (seen run.state)) }
+    ensures runs { IfOk result (λ run. Runs (boot_of image.now) n run.events run.end (seen run.state)) }
     ensures each_cycle { IfOk result (λ run. cycles_of run.events ≡ range_with_len 0 n) }
-    ensures built { OnOk result (first_unbuilt image.now n ≡ None) }
-    ensures cause { IfErr result (HasCause image.now n) }
+    ensures built { OnOk result (first_unbuilt (boot_of image.now) n ≡ None) }
+    ensures cause { IfErr result (HasCause (boot_of image.now) n) }
     ensures too_large { (result ≡ Err RunFault.ImageTooLarge) ↔ (ram_size < length image.now) }
 {
     if image.len() > RAM_SIZE {
@@ -34,18 +35,14 @@ pub fn simulate(alloc: Global, image: &[u8], n: u64) -> Result<Run, RunFault>
     let Ok(devices) = Devices::new(alloc, n / 160) else {
         return Err(RunFault::NoMemory);
     };
-    let mut state = State {
-        regs: Regs::new(),
-        ram,
-        devices,
-    };
+    let mut state = State::new(ram, devices);
     let mut events = Events::new(alloc);
     for cycle in 0..n {
         state.devices.advance(cycle);
         let Some(event) = turned(&mut state) else {
             return Err(RunFault::Unbuilt {
                 cycle,
-                cia: state.regs.cia,
+                cia: state.cia(),
             });
         };
         let Ok(()) = events.push(event) else {

@@ -2,6 +2,7 @@
 use Rattle.std.proofs.Common.{◌≡◌, ℕ, ◌<◌, ◌≤◌, ◌⊎◌, inl, inr, List, [], ◌∷◌, length, Option, Some, None, Result, Ok, Err, IfSome, IsSomeAnd, IsTrue, option_map, slice_get, refl, sym, ap, ◌∙◌, subst, arith}
 use Rattle.std.proofs.lemmas.Bool.{cases_lt}
 use Rattle.mw_io.specs.Outside.{HostState, Counts, Rose, content_of}
+use Rattle.mw_isa.specs.Start.{boot_of}
 use Rattle.mw_isa.specs.Unbuilt.{first_unbuilt}
 use Rattle.mw_asm.specs.declared.fault.Place.{Place}
 use Rattle.mw_asm.specs.Assembled.{assembled}
@@ -9,7 +10,7 @@ use Rattle.mw_asm.specs.Disassembly.{disassembly}
 use Rattle.mw_cli.specs.declared.status.Status.{Status}
 use Rattle.mw_cli.specs.declared.status.Status.TheVariants.{Done, Usage, ReadFault, WriteFault, ImageTooLarge, BadInput, NoMemory, Unbuilt}
 use Rattle.mw_cli.specs.Command.{RunOrder, Order, Run, Assemble, Disassemble, files_of, order_of}
-use Rattle.mw_cli.specs.Verdict.{Output, TextOf, Bytes, Verdict, Refuses, status_by, first_of, unless_too_large, unless_unbuilt, unless_bad, too_large_line, unbuilt_line, bad_line}
+use Rattle.mw_cli.specs.Verdict.{Output, TextOf, Bytes, Verdict, Refuses, status_by, first_of, run_by, unless_too_large, unless_unbuilt, unless_bad, too_large_line, unbuilt_line, bad_line}
 use Rattle.mw_cli.specs.Outside.{Change, TookNothing}
 use Rattle.mw_cli.specs.Answers.{Call, ComesTo, OnOrder, Refused, Asks, IsUnanswered, Answers}
 use Rattle.mw_cli.specs.Stages.{IsContent, IsTooLong, ReachesUnbuilt}
@@ -126,7 +127,7 @@ source-too-large : (host : Change HostState) (name line : List ℕ) → ComesTo 
 source-too-large host name line (contents, are, comes) = let (other, rest) = source-refused name _ ImageTooLarge line comes in cc
 
 -- with Unbuilt a run reaches an instruction that isn't built, and its address is told
-run-unbuilt : (host : Change HostState) (order : RunOrder) (line : List ℕ) → ComesTo host (Run order) (Refuses Unbuilt line) → (image : List ℕ) × (cia : ℕ) × IsContent host order.image image × (length image ≤ 16777216) × ReachesUnbuilt image order.cycles cia × (line ≡ unbuilt_line cia)
+run-unbuilt : (host : Change HostState) (order : RunOrder) (line : List ℕ) → ComesTo host (Run order) (Refuses Unbuilt line) → (image : List ℕ) × (cia : ℕ) × IsContent host order.image image × (length image ≤ 16777216) × ReachesUnbuilt (boot_of image) order.cycles cia × (line ≡ unbuilt_line cia)
 run-unbuilt host order line (contents, are, comes) = elim (long-or-so (first_of contents) _ Unbuilt line comes) [
   | inl (long, e) ↦ cc
   | inr (short, e) ↦ let (same, (cycle, cia, stop, told)) = run-stops-at _ _ Unbuilt line e in (first_of contents, cia, first-is host.before.files order.image contents are, short, (cycle, stop), told)
@@ -170,7 +171,7 @@ too-large-disassembly call image asked a = let (line, is) = comes call ImageTooL
 pub too-large-source : (call : Call) (source : List ℕ) → order_of call.words ≡ Some (Assemble source) → Answers call ImageTooLarge → ⊥
 too-large-source call source asked a = let (line, is) = comes call ImageTooLarge (Assemble source) asked a.says in source-too-large call.host source line is
 
-pub unbuilt : (call : Call) (order : RunOrder) → order_of call.words ≡ Some (Run order) → Answers call Unbuilt → (image : List ℕ) × (cia : ℕ) × IsContent call.host order.image image × (length image ≤ 16777216) × ReachesUnbuilt image order.cycles cia
+pub unbuilt : (call : Call) (order : RunOrder) → order_of call.words ≡ Some (Run order) → Answers call Unbuilt → (image : List ℕ) × (cia : ℕ) × IsContent call.host order.image image × (length image ≤ 16777216) × ReachesUnbuilt (boot_of image) order.cycles cia
 unbuilt call order asked a =
     let (line, is) = comes call Unbuilt (Run order) asked a.says in
     let (image, cia, content, short, stop, told) = run-unbuilt call.host order line is in
@@ -202,16 +203,16 @@ always-too-large call status order told asks long a = a.exactly (Run order) told
 pub always-too-large-disassembly : (call : Call) (status : Status) (image : List ℕ) (told : List ℕ → Option (List ℕ)) → Asks call (Disassemble image) told → 16777216 < length (content_of told image) → Answers call status → (status ≡ ImageTooLarge) ⊎ IsUnanswered call status
 always-too-large-disassembly call status image told asks long a = a.exactly (Disassemble image) told ImageTooLarge too_large_line asks (too_long (content_of told image) _ long)
 
-pub always-unbuilt : (call : Call) (status : Status) (order : RunOrder) (told : List ℕ → Option (List ℕ)) (cia : ℕ) → Asks call (Run order) told → length (content_of told order.image) ≤ 16777216 → ReachesUnbuilt (content_of told order.image) order.cycles cia → Answers call status → (status ≡ Unbuilt) ⊎ IsUnanswered call status
-always-unbuilt call status order told cia asks short (cycle, stop) a = a.exactly (Run order) told Unbuilt (unbuilt_line cia) asks (fits (content_of told order.image) _ short ∙ ap (λ (o : Option (ℕ × ℕ)). unless_unbuilt o (TextOf order (content_of told order.image))) stop)
+pub always-unbuilt : (call : Call) (status : Status) (order : RunOrder) (told : List ℕ → Option (List ℕ)) (cia : ℕ) → Asks call (Run order) told → length (content_of told order.image) ≤ 16777216 → ReachesUnbuilt (boot_of (content_of told order.image)) order.cycles cia → Answers call status → (status ≡ Unbuilt) ⊎ IsUnanswered call status
+always-unbuilt call status order told cia asks short (cycle, stop) a = a.exactly (Run order) told Unbuilt (unbuilt_line cia) asks (fits (content_of told order.image) _ short ∙ ap (λ (o : Option (ℕ × ℕ)). unless_unbuilt o (TextOf (run_by order (content_of told order.image)))) stop)
 
 pub always-bad-input : (call : Call) (status : Status) (source : List ℕ) (told : List ℕ → Option (List ℕ)) (place : Place) → Asks call (Assemble source) told → assembled (content_of told source) ≡ Err place → Answers call status → (status ≡ BadInput) ⊎ IsUnanswered call status
 always-bad-input call status source told place asks bad a = a.exactly (Assemble source) told BadInput (bad_line source place.line place.column) asks (ap (unless_bad source) bad)
 
 -- ---- what is left is done where no call failed, unless memory is wanting
 
-pub complete-run : (call : Call) (status : Status) (order : RunOrder) (told : List ℕ → Option (List ℕ)) → Asks call (Run order) told → length (content_of told order.image) ≤ 16777216 → first_unbuilt (content_of told order.image) order.cycles ≡ None → ¬ (Rose call.host.before.faults call.host.after.faults) → ¬ (Rose call.out.before.faults call.out.after.faults) → Answers call status → (status ≡ Done) ⊎ (status ≡ NoMemory)
-complete-run call status order told asks short built host out a = a.complete (Run order) told (TextOf order (content_of told order.image)) asks (fits (content_of told order.image) _ short ∙ ap (λ (o : Option (ℕ × ℕ)). unless_unbuilt o (TextOf order (content_of told order.image))) built) host out
+pub complete-run : (call : Call) (status : Status) (order : RunOrder) (told : List ℕ → Option (List ℕ)) → Asks call (Run order) told → length (content_of told order.image) ≤ 16777216 → first_unbuilt (boot_of (content_of told order.image)) order.cycles ≡ None → ¬ (Rose call.host.before.faults call.host.after.faults) → ¬ (Rose call.out.before.faults call.out.after.faults) → Answers call status → (status ≡ Done) ⊎ (status ≡ NoMemory)
+complete-run call status order told asks short built host out a = a.complete (Run order) told (TextOf (run_by order (content_of told order.image))) asks (fits (content_of told order.image) _ short ∙ ap (λ (o : Option (ℕ × ℕ)). unless_unbuilt o (TextOf (run_by order (content_of told order.image)))) built) host out
 
 pub complete-source : (call : Call) (status : Status) (source : List ℕ) (told : List ℕ → Option (List ℕ)) (bytes : List ℕ) → Asks call (Assemble source) told → assembled (content_of told source) ≡ Ok bytes → ¬ (Rose call.host.before.faults call.host.after.faults) → ¬ (Rose call.out.before.faults call.out.after.faults) → Answers call status → (status ≡ Done) ⊎ (status ≡ NoMemory)
 complete-source call status source told bytes asks ok host out a = a.complete (Assemble source) told (Bytes bytes) asks (ap (unless_bad source) ok) host out

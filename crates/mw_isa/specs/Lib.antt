@@ -14,6 +14,7 @@ pub mod Access
 pub mod Step
 pub mod Replay
 pub mod Unbuilt
+pub mod Stops
 pub mod Lively
 pub mod Runs
 pub mod Text
