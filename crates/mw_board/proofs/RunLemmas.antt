@@ -6,6 +6,7 @@ use Rattle.std.specs.List.{All, Contains}
 use Rattle.std.proofs.lemmas.List.{map-append}
 use Rattle.std.proofs.lemmas.List.FromFn.{length-range_with_len, get_or-range_with_len}
 use Rattle.mw_isa.specs.declared.event.Event.{Event}
+use Rattle.mw_isa.specs.declared.event.End.{End}
 use Rattle.mw_isa.specs.declared.event.End.TheVariants.{Ran}
 use Rattle.mw_bus.specs.Memory.{ram_of}
 use Rattle.mw_isa.specs.declared.state.State.{State as Whole}
@@ -118,7 +119,7 @@ made-next boot n events more cycle event state after devices below m d t e =
     subst (λ (es : List Event). IsMade boot n es (cycle + 1) after) (sym e) (made-more boot n events cycle event state after below m u)
 
 -- the end, from its parts
-pub made-end : (boot : Boot) (n : ℕ) (events : List Event) (cycle : ℕ) (state : State) (devices : DeviceData) → length boot.image ≤ 16777216 → cycle ≡ n → IsMade boot n events cycle state → devices ≡ devices_at state.devices n → Runs boot n events (Ran n) (state_of state.regs state.ram devices)
-made-end boot n events cycle state devices fits at m d =
-    let r = made-runs boot n events state fits (subst (λ (k : ℕ). IsMade boot n events k state) at m) in
-    subst (λ (v : DeviceData). Runs boot n events (Ran n) (state_of state.regs state.ram v)) (sym d) r
+pub made-end : (boot : Boot) (n : ℕ) (events all : List Event) (cycle : ℕ) (end : End) (state last : State) → IsMade boot n events cycle state → cycle ≡ n → length boot.image ≤ 16777216 → all ≡ events → end ≡ Ran n → last ≡ brought n state → Runs boot n all end last
+made-end boot n events all cycle end state last m at fits a e b =
+    subst (λ (es : List Event). Runs boot n es end last) (sym a) (subst (λ (x : End). Runs boot n events x last) (sym e)
+    (subst (Runs boot n events (Ran n)) (sym b) (made-runs boot n events state fits (subst (λ (k : ℕ). IsMade boot n events k state) at m))))

@@ -1,7 +1,8 @@
-ghost use Rattle.std.specs.Prelude.{◌≡◌, ◌≤◌, ◌<◌, ◌↔◌, length, OnOk, IfOk, IfErr, None, Err};
+ghost use Rattle.std.specs.Prelude.{◌≡◌, ◌/◌, ◌≤◌, ◌<◌, ◌↔◌, length, OnOk, IfOk, IfErr, None, Err};
 ghost use Rattle.std.specs.List.{range_with_len};
 ghost use Rattle.mw_bus.specs.Memory.{ram_size};
-ghost use Rattle.mw_isa.specs.State.{seen};
+ghost use Rattle.mw_soc.specs.Devices.{cycle_of};
+ghost use Rattle.mw_isa.specs.State.{seen, brought};
 ghost use Rattle.mw_isa.specs.Start.{boot_of};
 ghost use Rattle.mw_isa.specs.Replay.{cycles_of};
 ghost use Rattle.mw_isa.specs.Runs.{Runs};
@@ -14,6 +15,22 @@ use mw_bus::{RAM_SIZE, Ram};
 use mw_isa::{End, Events, State};
 use mw_soc::Devices;
 use std::alloc::Global;
+
+/// The run that reached its number of cycles with these events and this state, whose devices are brought to it.
+fn ended(events: Events, mut state: State, n: u64) -> Run
+    requires later { cycle_of state.devices.devices ≤ n }
+    requires room { n / 160 ≤ state.devices.room }
+    ensures events { result.events ≡ events }
+    ensures end { result.end ≡ End.Ran n }
+    ensures last { seen result.state ≡ brought n (seen state) }
+{
+    state.devices.advance(n);
+    Run {
+        events,
+        end: End::Ran { cycle: n },
+        state,
+    }
+}
 
 /// Runs an image for `n` cycles, an instruction a cycle, from the machine's start with the image at real
 /// address 0. `Err` says why there is no run: the image doesn't fit RAM, an instruction that isn't built
@@ -49,10 +66,5 @@ pub fn simulate(alloc: Global, image: &[u8], n: u64) -> Result<Run, RunFault>
             return Err(RunFault::NoMemory);
         };
     }
-    state.devices.advance(n);
-    Ok(Run {
-        events,
-        end: End::Ran { cycle: n },
-        state,
-    })
+    Ok(ended(events, state, n))
 }

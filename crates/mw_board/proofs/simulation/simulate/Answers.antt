@@ -21,4 +21,4 @@ loop-cycle-preserved c = (
 
 pub returns-clause-runs : goal.returns-clause-runs
 returns-clause-runs c =
-    made-end (boot_of c.args.image.now) c.args.n c.loop-cycle.events c.loop-cycle.cycle (seen c.loop-cycle.state) c.advance-2.new.self.devices (omega arith) (omega arith) c.loop-cycle.invariant.0 (ap (λ (h : Housed). h.devices) c.advance-2.ensures)
+    made-end (boot_of c.args.image.now) c.args.n c.loop-cycle.events c.ended.result.events c.loop-cycle.cycle c.ended.result.end (seen c.loop-cycle.state) (seen c.ended.result.state) c.loop-cycle.invariant.0 (omega arith) (omega arith) c.ended.ensures.events c.ended.ensures.end c.ended.ensures.last
