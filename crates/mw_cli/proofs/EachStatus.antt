@@ -10,9 +10,10 @@ use Rattle.mw_asm.specs.Disassembly.{disassembly}
 use Rattle.mw_cli.specs.declared.status.Status.{Status}
 use Rattle.mw_cli.specs.declared.status.Status.TheVariants.{Done, Usage, ReadFault, WriteFault, ImageTooLarge, BadInput, NoMemory, Unbuilt}
 use Rattle.mw_cli.specs.Command.{RunOrder, Order, Run, Assemble, Disassemble, files_of, order_of}
-use Rattle.mw_cli.specs.Verdict.{Output, TextOf, Bytes, Verdict, Refuses, status_by, first_of, run_by, unless_too_large, unless_unbuilt, unless_bad, too_large_line, unbuilt_line, bad_line}
-use Rattle.mw_cli.specs.Outside.{Change, TookNothing}
-use Rattle.mw_cli.specs.Answers.{Call, ComesTo, OnOrder, Refused, Asks, IsUnanswered, Answers}
+use Rattle.mw_cli.specs.Headline.{AskedRun, SpellsRun}
+use Rattle.mw_cli.specs.Verdict.{Output, TextOf, Bytes, IsOutput, Verdict, Writes, Refuses, status_by, first_of, run_by, verdict_on, unless_too_large, unless_unbuilt, unless_bad, too_large_line, unbuilt_line, bad_line}
+use Rattle.mw_cli.specs.Outside.{Change, TookNothing, Took, TookFront}
+use Rattle.mw_cli.specs.Answers.{Call, ComesTo, Written, CutShort, OnOrder, Refused, Asks, IsUnanswered, Answers}
 use Rattle.mw_cli.specs.Stages.{IsContent, IsTooLong, ReachesUnbuilt}
 use Rattle.mw_cli.proofs.FileLemmas.{Files}
 use Rattle.mw_cli.proofs.VerdictLemmas.{fits, too_long}
@@ -155,6 +156,39 @@ run-bad host order line (contents, are, comes) = elim (long-or-so (first_of cont
 
 listing-bad : (host : Change HostState) (name line : List ℕ) → ComesTo host (Disassemble name) (Refuses BadInput line) → ⊥
 listing-bad host name line (contents, are, comes) = elim (long-or-so (first_of contents) _ BadInput line comes) [ inl (long, e) ↦ cc | inr (short, e) ↦ cc ]
+
+-- what is written of a run that isn't refused is its text
+text-written : (o : Option (ℕ × ℕ)) (run : AskedRun) (output : Output) → unless_unbuilt o (TextOf run) ≡ Writes output → output ≡ TextOf run
+text-written None run output e = cc
+text-written (Some (cycle, cia)) run output e = cc
+
+run-written : (run : AskedRun) (output : Output) → verdict_on run ≡ Writes output → output ≡ TextOf run
+run-written run output e = elim (cases_lt 16777216 (length run.boot.image)) [
+  | inl long ↦ let refused : Refuses ImageTooLarge too_large_line ≡ Writes output = sym (too_long run.boot.image _ long) ∙ e in cc
+  | inr short ↦ text-written (first_unbuilt run.boot run.cycles) run output (sym (fits run.boot.image _ short) ∙ e)
+]
+
+-- so it is a text of a run of the image's content
+run-gives-text : (host : Change HostState) (order : RunOrder) (output : Output) (text : List ℕ) → ComesTo host (Run order) (Writes output) → IsOutput output text → (image : List ℕ) × IsContent host order.image image × SpellsRun (run_by order image) text
+run-gives-text host order output text (contents, are, gives) is =
+    let same : output ≡ TextOf (run_by order (first_of contents)) = run-written (run_by order (first_of contents)) output gives in
+    (first_of contents, first-is host.before.files order.image contents are, subst (λ (o : Output). IsOutput o text) same is)
+
+-- ---- Done and WriteFault, of a run
+
+-- with Done out took a text of a run of the image
+pub done-run : (call : Call) (order : RunOrder) → order_of call.words ≡ Some (Run order) → Answers call Done → (image : List ℕ) × (text : List ℕ) × IsContent call.host order.image image × SpellsRun (run_by order image) text × Took call.out text
+done-run call order asked a =
+    let (text, (output, gives, is), took) = at_some (order_of call.words) (Written call.host call.out) (Run order) asked a.says.0 in
+    let (image, content, spells) = run-gives-text call.host order output text gives is in
+    (image, text, content, spells, took)
+
+-- with WriteFault it took a front of such a text
+pub cut-run : (call : Call) (order : RunOrder) → order_of call.words ≡ Some (Run order) → Answers call WriteFault → (image : List ℕ) × (text : List ℕ) × IsContent call.host order.image image × SpellsRun (run_by order image) text × TookFront call.out text
+cut-run call order asked a =
+    let (text, (output, gives, is), took) = at_some (order_of call.words) (CutShort call.host call.out) (Run order) asked a.says.0 in
+    let (image, content, spells) = run-gives-text call.host order output text gives is in
+    (image, text, content, spells, took)
 
 -- ---- ImageTooLarge, Unbuilt and BadInput come only with their causes
 

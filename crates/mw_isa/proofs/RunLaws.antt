@@ -10,7 +10,7 @@ use Rattle.mw_isa.specs.Runs.{Runs}
 use Rattle.mw_isa.specs.Reading.{events_of, end_of, Spells, OnRun}
 
 -- what the one value has, some value has
-has_some : {A : Type 0} (o : Option A) (x : A) (P : A → Type 0) → o ≡ Some x → P x → IsSomeAnd o P
+pub has_some : {A : Type 0} (o : Option A) (x : A) (P : A → Type 0) → o ≡ Some x → P x → IsSomeAnd o P
 has_some o x P e h = subst (λ (v : Option _). IsSomeAnd v P) (sym e) h
 
 -- what follows for each value follows for some
