@@ -6,12 +6,13 @@ use Rattle.std.specs.List.{All, Contains}
 use Rattle.std.proofs.lemmas.List.{map-append}
 use Rattle.std.proofs.lemmas.List.FromFn.{length-range_with_len, get_or-range_with_len}
 use Rattle.mw_isa.specs.declared.event.Event.{Event}
+use Rattle.mw_isa.specs.declared.event.End.{End}
 use Rattle.mw_isa.specs.declared.event.End.TheVariants.{Ran}
 use Rattle.mw_bus.specs.Memory.{ram_of}
-use Rattle.mw_isa.specs.declared.regs.Regs.{Regs}
-use Rattle.mw_soc.specs.DeviceData.{DeviceData}
-use Rattle.mw_isa.specs.State.{State, state_of, brought}
-use Rattle.mw_isa.specs.Start.{start, start_regs}
+use Rattle.mw_isa.specs.declared.state.State.{State as Whole}
+use Rattle.mw_soc.specs.DeviceData.{DeviceData, Housed}
+use Rattle.mw_isa.specs.State.{State, state_of, seen, brought}
+use Rattle.mw_isa.specs.Start.{Boot, start, start_regs}
 use Rattle.mw_soc.specs.Devices.{cycle_of, devices_at, start_devices}
 use Rattle.mw_isa.specs.Replay.{acted, replay, state_after, cycle_of_event, cycles_of}
 use Rattle.mw_isa.specs.Unbuilt.{unbuilt_from, first_unbuilt}
@@ -52,27 +53,27 @@ range-contains n i h =
     (i, omega arith, omega arith)
 
 -- how far a run has come: the events lead to the state, there is one a cycle, and what isn't built is still ahead
-pub record IsMade (image : List ℕ) (n : ℕ) (events : List Event) (cycle : ℕ) (state : State) : Type 0 where
-  pub made : replay events (start image) ≡ Some state
+pub record IsMade (boot : Boot) (n : ℕ) (events : List Event) (cycle : ℕ) (state : State) : Type 0 where
+  pub made : replay events (start boot) ≡ Some state
   pub cycles : cycles_of events ≡ range_with_len 0 cycle
-  pub ahead : unbuilt_from (n - cycle) cycle state ≡ first_unbuilt image n
+  pub ahead : unbuilt_from (n - cycle) cycle state ≡ first_unbuilt boot n
   pub stands : cycle_of state.devices ≤ cycle
 
 -- at the start
-pub made-start : (image : List ℕ) (n : ℕ) → IsMade image n [] 0 (start image)
+pub made-start : (boot : Boot) (n : ℕ) → IsMade boot n [] 0 (start boot)
 unfolding first_unbuilt start
-made-start image n =
+made-start boot n =
     let whole : n - 0 ≡ n = omega arith in
     record {
       made = refl;
       cycles = refl;
-      ahead = ap (λ (k : ℕ). unbuilt_from k 0 (start image)) whole;
+      ahead = ap (λ (k : ℕ). unbuilt_from k 0 (start boot)) whole;
       stands = omega arith;
     }
 
 -- one instruction further
-pub made-more : (image : List ℕ) (n : ℕ) (events : List Event) (cycle : ℕ) (event : Event) (state after : State) → cycle < n → IsMade image n events cycle state → Turns (Some event) (brought cycle state) after → IsMade image n (events ++ event ∷ []) (cycle + 1) after
-made-more image n events cycle event state after below m t =
+pub made-more : (boot : Boot) (n : ℕ) (events : List Event) (cycle : ℕ) (event : Event) (state after : State) → cycle < n → IsMade boot n events cycle state → Turns (Some event) (brought cycle state) after → IsMade boot n (events ++ event ∷ []) (cycle + 1) after
+made-more boot n events cycle event state after below m t =
     let left : n - cycle ≡ suc (n - (cycle + 1)) = omega arith in
     let from : 0 + cycle ≡ cycle = omega arith in
     let now : cycle_of_event event ≡ cycle = t.cycle ∙ cycle-devices_at state.devices cycle in
@@ -82,16 +83,16 @@ made-more image n events cycle event state after below m t =
     ap (λ (l : ℕ). unbuilt_from l cycle state) left
     ∙ ap₂ (λ (b : Bool) (s : State). cond b (unbuilt_from (n - (cycle + 1)) (cycle + 1) s) (Some (cycle, state.regs.cia))) t.built t.steps in
     record {
-      made = replay-push events event (start image) state after m.made (ap (λ (k : ℕ). acted event (brought k state)) now ∙ t.acts);
+      made = replay-push events event (start boot) state after m.made (ap (λ (k : ℕ). acted event (brought k state)) now ∙ t.acts);
       cycles = map-append cycle_of_event events (event ∷ []) ∙ ap₂ (λ (xs : List ℕ) (k : ℕ). xs ++ k ∷ []) m.cycles now ∙ sym (range_with_len-more 0 cycle cycle from);
       ahead = sym u ∙ m.ahead;
       stands = omega arith;
     }
 
 -- a run to its end has the headline
-pub made-runs : (image : List ℕ) (n : ℕ) (events : List Event) (state : State) → length image ≤ 16777216 → IsMade image n events n state → Runs image n events (Ran n) (brought n state)
+pub made-runs : (boot : Boot) (n : ℕ) (events : List Event) (state : State) → length boot.image ≤ 16777216 → IsMade boot n events n state → Runs boot n events (Ran n) (brought n state)
 unfolding state_after
-made-runs image n events state fits m = record {
+made-runs boot n events state fits m = record {
   fits = fits;
   stops = refl;
   rising = subst IsStrictlyIncreasing (sym m.cycles) (range-rises n);
@@ -100,22 +101,25 @@ made-runs image n events state fits m = record {
   lively = λ first h. (first, omega arith, omega arith, subst (λ (xs : List ℕ). Contains xs first) (sym m.cycles) (range-contains n first (omega arith)));
 }
 
--- at the start, from its parts
-pub made-init : (image : List ℕ) (n : ℕ) (events : List Event) (regs : Regs) (ram : List ℕ) (devices : DeviceData) → events ≡ [] → regs ≡ start_regs → ram ≡ ram_of image → devices ≡ start_devices → IsMade image n events 0 (state_of regs ram devices)
+-- the state that the code makes at the start
+pub seen-start : (boot : Boot) (room : ℕ) (whole : Whole) (ram : List ℕ) (devices : Housed) → whole ≡ record { regs = start_regs; ram = ram; devices = devices } → ram ≡ ram_of boot.image → devices ≡ record { devices = start_devices boot.script; room = room } → seen whole ≡ start boot
 unfolding start
-made-init image n events regs ram devices e r m d =
-    let s : start image ≡ state_of regs ram devices =
-    ap₂ (λ (x : Regs) (y : List ℕ). state_of x y start_devices) (sym r) (sym m) ∙ ap (state_of regs ram) (sym d) in
-    subst (λ (es : List Event). IsMade image n es 0 (state_of regs ram devices)) (sym e) (subst (IsMade image n [] 0) s (made-start image n))
+seen-start boot room whole ram devices w r d =
+    ap seen w ∙ ap₂ (λ (bytes : List ℕ) (housed : Housed). state_of start_regs bytes housed.devices) r d
+
+-- at the start, from its parts
+pub made-init : (boot : Boot) (n : ℕ) (events : List Event) (state : State) → events ≡ [] → state ≡ start boot → IsMade boot n events 0 state
+made-init boot n events state e s =
+    subst (λ (es : List Event). IsMade boot n es 0 state) (sym e) (subst (IsMade boot n [] 0) (sym s) (made-start boot n))
 
 -- one instruction further, from its parts
-pub made-next : (image : List ℕ) (n : ℕ) (events more : List Event) (cycle : ℕ) (event : Event) (state after : State) (devices : DeviceData) → cycle < n → IsMade image n events cycle state → devices ≡ devices_at state.devices cycle → Turns (Some event) (state_of state.regs state.ram devices) after → more ≡ events ++ event ∷ [] → IsMade image n more (cycle + 1) after
-made-next image n events more cycle event state after devices below m d t e =
+pub made-next : (boot : Boot) (n : ℕ) (events more : List Event) (cycle : ℕ) (event : Event) (state after : State) (devices : DeviceData) → cycle < n → IsMade boot n events cycle state → devices ≡ devices_at state.devices cycle → Turns (Some event) (state_of state.regs state.ram devices) after → more ≡ events ++ event ∷ [] → IsMade boot n more (cycle + 1) after
+made-next boot n events more cycle event state after devices below m d t e =
     let u = subst (λ (v : DeviceData). Turns (Some event) (state_of state.regs state.ram v) after) d t in
-    subst (λ (es : List Event). IsMade image n es (cycle + 1) after) (sym e) (made-more image n events cycle event state after below m u)
+    subst (λ (es : List Event). IsMade boot n es (cycle + 1) after) (sym e) (made-more boot n events cycle event state after below m u)
 
 -- the end, from its parts
-pub made-end : (image : List ℕ) (n : ℕ) (events : List Event) (cycle : ℕ) (state : State) (devices : DeviceData) → length image ≤ 16777216 → cycle ≡ n → IsMade image n events cycle state → devices ≡ devices_at state.devices n → Runs image n events (Ran n) (state_of state.regs state.ram devices)
-made-end image n events cycle state devices fits at m d =
-    let r = made-runs image n events state fits (subst (λ (k : ℕ). IsMade image n events k state) at m) in
-    subst (λ (v : DeviceData). Runs image n events (Ran n) (state_of state.regs state.ram v)) (sym d) r
+pub made-end : (boot : Boot) (n : ℕ) (events all : List Event) (cycle : ℕ) (end : End) (state last : State) → IsMade boot n events cycle state → cycle ≡ n → length boot.image ≤ 16777216 → all ≡ events → end ≡ Ran n → last ≡ brought n state → Runs boot n all end last
+made-end boot n events all cycle end state last m at fits a e b =
+    subst (λ (es : List Event). Runs boot n es end last) (sym a) (subst (λ (x : End). Runs boot n events x last) (sym e)
+    (subst (Runs boot n events (Ran n)) (sym b) (made-runs boot n events state fits (subst (λ (k : ℕ). IsMade boot n events k state) at m))))

@@ -1,7 +1,9 @@
-ghost use Rattle.std.specs.Prelude.{◌≡◌, ◌≤◌, ◌<◌, ◌↔◌, length, OnOk, IfOk, IfErr, None, Err};
+ghost use Rattle.std.specs.Prelude.{◌≡◌, ◌/◌, ◌≤◌, ◌<◌, ◌↔◌, length, OnOk, IfOk, IfErr, None, Err};
 ghost use Rattle.std.specs.List.{range_with_len};
 ghost use Rattle.mw_bus.specs.Memory.{ram_size};
-ghost use Rattle.mw_isa.specs.State.{seen};
+ghost use Rattle.mw_soc.specs.Devices.{cycle_of};
+ghost use Rattle.mw_isa.specs.State.{seen, brought};
+ghost use Rattle.mw_isa.specs.Start.{boot_of};
 ghost use Rattle.mw_isa.specs.Replay.{cycles_of};
 ghost use Rattle.mw_isa.specs.Runs.{Runs};
 ghost use Rattle.mw_isa.specs.Unbuilt.{first_unbuilt};
@@ -10,19 +12,35 @@ ghost use Rattle.mw_board.specs.Faults.{HasCause};
 use crate::run::{Run, RunFault};
 use crate::turn::turned;
 use mw_bus::{RAM_SIZE, Ram};
-use mw_isa::{End, Events, Regs, State};
+use mw_isa::{End, Events, State};
 use mw_soc::Devices;
 use std::alloc::Global;
+
+/// The run that reached its number of cycles with these events and this state, whose devices are brought to it.
+fn ended(events: Events, mut state: State, n: u64) -> Run
+    requires later { cycle_of state.devices.devices ≤ n }
+    requires room { n / 160 ≤ state.devices.room }
+    ensures events { result.events ≡ events }
+    ensures end { result.end ≡ End.Ran n }
+    ensures last { seen result.state ≡ brought n (seen state) }
+{
+    state.devices.advance(n);
+    Run {
+        events,
+        end: End::Ran { cycle: n },
+        state,
+    }
+}
 
 /// Runs an image for `n` cycles, an instruction a cycle, from the machine's start with the image at real
 /// address 0. `Err` says why there is no run: the image doesn't fit RAM, an instruction that isn't built
 /// is reached below cycle `n`, or memory is wanting.
 pub fn simulate(alloc: Global, image: &[u8], n: u64) -> Result<Run, RunFault>
     requires { n ≤ 4000000 }
-    ensures runs { IfOk result (λ run. Runs image.now n run.events run.end (seen run.state)) }
+    ensures runs { IfOk result (λ run. Runs (boot_of image.now) n run.events run.end (seen run.state)) }
     ensures each_cycle { IfOk result (λ run. cycles_of run.events ≡ range_with_len 0 n) }
-    ensures built { OnOk result (first_unbuilt image.now n ≡ None) }
-    ensures cause { IfErr result (HasCause image.now n) }
+    ensures built { OnOk result (first_unbuilt (boot_of image.now) n ≡ None) }
+    ensures cause { IfErr result (HasCause (boot_of image.now) n) }
     ensures too_large { (result ≡ Err RunFault.ImageTooLarge) ↔ (ram_size < length image.now) }
 {
     if image.len() > RAM_SIZE {
@@ -34,28 +52,19 @@ pub fn simulate(alloc: Global, image: &[u8], n: u64) -> Result<Run, RunFault>
     let Ok(devices) = Devices::new(alloc, n / 160) else {
         return Err(RunFault::NoMemory);
     };
-    let mut state = State {
-        regs: Regs::new(),
-        ram,
-        devices,
-    };
+    let mut state = State::new(ram, devices);
     let mut events = Events::new(alloc);
     for cycle in 0..n {
         state.devices.advance(cycle);
         let Some(event) = turned(&mut state) else {
             return Err(RunFault::Unbuilt {
                 cycle,
-                cia: state.regs.cia,
+                cia: state.cia(),
             });
         };
         let Ok(()) = events.push(event) else {
             return Err(RunFault::NoMemory);
         };
     }
-    state.devices.advance(n);
-    Ok(Run {
-        events,
-        end: End::Ran { cycle: n },
-        state,
-    })
+    Ok(ended(events, state, n))
 }

@@ -2,6 +2,7 @@
 use Rattle.std.proofs.Common.{◌≡◌, ℕ, ◌≤◌, List, length, Option, Some, None, Ok, IfSome, ap, subst, ◌∙◌, arith}
 use Rattle.mw_io.specs.Outside.{HostState, Rose, content_of}
 use Rattle.mw_asm.specs.Assembled.{assembled}
+use Rattle.mw_isa.specs.Start.{boot_of}
 use Rattle.mw_isa.specs.Unbuilt.{first_unbuilt}
 use Rattle.mw_cli.specs.declared.status.Status.TheVariants.{Usage, ReadFault, WriteFault, ImageTooLarge, BadInput, Unbuilt}
 use Rattle.mw_cli.specs.Command.{RunOrder, Order, Run, Assemble, Disassemble, order_of}
@@ -58,8 +59,8 @@ never-bad-input call name told bytes asks ok a =
     cc
 
 -- Unbuilt isn't answered where all that a run reaches is built
-pub never-unbuilt : (call : Call) (order : RunOrder) (told : List ℕ → Option (List ℕ)) → Asks call (Run order) told → first_unbuilt (content_of told order.image) order.cycles ≡ None → Answers call Unbuilt → ⊥
+pub never-unbuilt : (call : Call) (order : RunOrder) (told : List ℕ → Option (List ℕ)) → Asks call (Run order) told → first_unbuilt (boot_of (content_of told order.image)) order.cycles ≡ None → Answers call Unbuilt → ⊥
 never-unbuilt call order told asks built a =
     let (image, cia, content, short, (cycle, stop)) = unbuilt call order asks.0 a in
-    let same : first_unbuilt image order.cycles ≡ None = ap (λ (bytes : List ℕ). first_unbuilt bytes order.cycles) (told-content call.host order.image image told asks.1 content) ∙ built in
+    let same : first_unbuilt (boot_of image) order.cycles ≡ None = ap (λ (bytes : List ℕ). first_unbuilt (boot_of bytes) order.cycles) (told-content call.host order.image image told asks.1 content) ∙ built in
     cc

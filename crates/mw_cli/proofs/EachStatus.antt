@@ -2,6 +2,7 @@
 use Rattle.std.proofs.Common.{◌≡◌, ℕ, ◌<◌, ◌≤◌, ◌⊎◌, inl, inr, List, [], ◌∷◌, length, Option, Some, None, Result, Ok, Err, IfSome, IsSomeAnd, IsTrue, option_map, slice_get, refl, sym, ap, ◌∙◌, subst, arith}
 use Rattle.std.proofs.lemmas.Bool.{cases_lt}
 use Rattle.mw_io.specs.Outside.{HostState, Counts, Rose, content_of}
+use Rattle.mw_isa.specs.Start.{boot_of}
 use Rattle.mw_isa.specs.Unbuilt.{first_unbuilt}
 use Rattle.mw_asm.specs.declared.fault.Place.{Place}
 use Rattle.mw_asm.specs.Assembled.{assembled}
@@ -9,9 +10,10 @@ use Rattle.mw_asm.specs.Disassembly.{disassembly}
 use Rattle.mw_cli.specs.declared.status.Status.{Status}
 use Rattle.mw_cli.specs.declared.status.Status.TheVariants.{Done, Usage, ReadFault, WriteFault, ImageTooLarge, BadInput, NoMemory, Unbuilt}
 use Rattle.mw_cli.specs.Command.{RunOrder, Order, Run, Assemble, Disassemble, files_of, order_of}
-use Rattle.mw_cli.specs.Verdict.{Output, TextOf, Bytes, Verdict, Refuses, status_by, first_of, unless_too_large, unless_unbuilt, unless_bad, too_large_line, unbuilt_line, bad_line}
-use Rattle.mw_cli.specs.Outside.{Change, TookNothing}
-use Rattle.mw_cli.specs.Answers.{Call, ComesTo, OnOrder, Refused, Asks, IsUnanswered, Answers}
+use Rattle.mw_cli.specs.Headline.{AskedRun, SpellsRun}
+use Rattle.mw_cli.specs.Verdict.{Output, TextOf, Bytes, IsOutput, Verdict, Writes, Refuses, status_by, first_of, run_by, verdict_on, unless_too_large, unless_unbuilt, unless_bad, too_large_line, unbuilt_line, bad_line}
+use Rattle.mw_cli.specs.Outside.{Change, TookNothing, Took, TookFront}
+use Rattle.mw_cli.specs.Answers.{Call, ComesTo, Written, CutShort, OnOrder, Refused, Asks, IsUnanswered, Answers}
 use Rattle.mw_cli.specs.Stages.{IsContent, IsTooLong, ReachesUnbuilt}
 use Rattle.mw_cli.proofs.FileLemmas.{Files}
 use Rattle.mw_cli.proofs.VerdictLemmas.{fits, too_long}
@@ -126,7 +128,7 @@ source-too-large : (host : Change HostState) (name line : List ℕ) → ComesTo 
 source-too-large host name line (contents, are, comes) = let (other, rest) = source-refused name _ ImageTooLarge line comes in cc
 
 -- with Unbuilt a run reaches an instruction that isn't built, and its address is told
-run-unbuilt : (host : Change HostState) (order : RunOrder) (line : List ℕ) → ComesTo host (Run order) (Refuses Unbuilt line) → (image : List ℕ) × (cia : ℕ) × IsContent host order.image image × (length image ≤ 16777216) × ReachesUnbuilt image order.cycles cia × (line ≡ unbuilt_line cia)
+run-unbuilt : (host : Change HostState) (order : RunOrder) (line : List ℕ) → ComesTo host (Run order) (Refuses Unbuilt line) → (image : List ℕ) × (cia : ℕ) × IsContent host order.image image × (length image ≤ 16777216) × ReachesUnbuilt (boot_of image) order.cycles cia × (line ≡ unbuilt_line cia)
 run-unbuilt host order line (contents, are, comes) = elim (long-or-so (first_of contents) _ Unbuilt line comes) [
   | inl (long, e) ↦ cc
   | inr (short, e) ↦ let (same, (cycle, cia, stop, told)) = run-stops-at _ _ Unbuilt line e in (first_of contents, cia, first-is host.before.files order.image contents are, short, (cycle, stop), told)
@@ -155,6 +157,39 @@ run-bad host order line (contents, are, comes) = elim (long-or-so (first_of cont
 listing-bad : (host : Change HostState) (name line : List ℕ) → ComesTo host (Disassemble name) (Refuses BadInput line) → ⊥
 listing-bad host name line (contents, are, comes) = elim (long-or-so (first_of contents) _ BadInput line comes) [ inl (long, e) ↦ cc | inr (short, e) ↦ cc ]
 
+-- what is written of a run that isn't refused is its text
+text-written : (o : Option (ℕ × ℕ)) (run : AskedRun) (output : Output) → unless_unbuilt o (TextOf run) ≡ Writes output → output ≡ TextOf run
+text-written None run output e = cc
+text-written (Some (cycle, cia)) run output e = cc
+
+run-written : (run : AskedRun) (output : Output) → verdict_on run ≡ Writes output → output ≡ TextOf run
+run-written run output e = elim (cases_lt 16777216 (length run.boot.image)) [
+  | inl long ↦ let refused : Refuses ImageTooLarge too_large_line ≡ Writes output = sym (too_long run.boot.image _ long) ∙ e in cc
+  | inr short ↦ text-written (first_unbuilt run.boot run.cycles) run output (sym (fits run.boot.image _ short) ∙ e)
+]
+
+-- so it is a text of a run of the image's content
+run-gives-text : (host : Change HostState) (order : RunOrder) (output : Output) (text : List ℕ) → ComesTo host (Run order) (Writes output) → IsOutput output text → (image : List ℕ) × IsContent host order.image image × SpellsRun (run_by order image) text
+run-gives-text host order output text (contents, are, gives) is =
+    let same : output ≡ TextOf (run_by order (first_of contents)) = run-written (run_by order (first_of contents)) output gives in
+    (first_of contents, first-is host.before.files order.image contents are, subst (λ (o : Output). IsOutput o text) same is)
+
+-- ---- Done and WriteFault, of a run
+
+-- with Done out took a text of a run of the image
+pub done-run : (call : Call) (order : RunOrder) → order_of call.words ≡ Some (Run order) → Answers call Done → (image : List ℕ) × (text : List ℕ) × IsContent call.host order.image image × SpellsRun (run_by order image) text × Took call.out text
+done-run call order asked a =
+    let (text, (output, gives, is), took) = at_some (order_of call.words) (Written call.host call.out) (Run order) asked a.says.0 in
+    let (image, content, spells) = run-gives-text call.host order output text gives is in
+    (image, text, content, spells, took)
+
+-- with WriteFault it took a front of such a text
+pub cut-run : (call : Call) (order : RunOrder) → order_of call.words ≡ Some (Run order) → Answers call WriteFault → (image : List ℕ) × (text : List ℕ) × IsContent call.host order.image image × SpellsRun (run_by order image) text × TookFront call.out text
+cut-run call order asked a =
+    let (text, (output, gives, is), took) = at_some (order_of call.words) (CutShort call.host call.out) (Run order) asked a.says.0 in
+    let (image, content, spells) = run-gives-text call.host order output text gives is in
+    (image, text, content, spells, took)
+
 -- ---- ImageTooLarge, Unbuilt and BadInput come only with their causes
 
 -- what an order that is refused comes to
@@ -170,7 +205,7 @@ too-large-disassembly call image asked a = let (line, is) = comes call ImageTooL
 pub too-large-source : (call : Call) (source : List ℕ) → order_of call.words ≡ Some (Assemble source) → Answers call ImageTooLarge → ⊥
 too-large-source call source asked a = let (line, is) = comes call ImageTooLarge (Assemble source) asked a.says in source-too-large call.host source line is
 
-pub unbuilt : (call : Call) (order : RunOrder) → order_of call.words ≡ Some (Run order) → Answers call Unbuilt → (image : List ℕ) × (cia : ℕ) × IsContent call.host order.image image × (length image ≤ 16777216) × ReachesUnbuilt image order.cycles cia
+pub unbuilt : (call : Call) (order : RunOrder) → order_of call.words ≡ Some (Run order) → Answers call Unbuilt → (image : List ℕ) × (cia : ℕ) × IsContent call.host order.image image × (length image ≤ 16777216) × ReachesUnbuilt (boot_of image) order.cycles cia
 unbuilt call order asked a =
     let (line, is) = comes call Unbuilt (Run order) asked a.says in
     let (image, cia, content, short, stop, told) = run-unbuilt call.host order line is in
@@ -202,16 +237,16 @@ always-too-large call status order told asks long a = a.exactly (Run order) told
 pub always-too-large-disassembly : (call : Call) (status : Status) (image : List ℕ) (told : List ℕ → Option (List ℕ)) → Asks call (Disassemble image) told → 16777216 < length (content_of told image) → Answers call status → (status ≡ ImageTooLarge) ⊎ IsUnanswered call status
 always-too-large-disassembly call status image told asks long a = a.exactly (Disassemble image) told ImageTooLarge too_large_line asks (too_long (content_of told image) _ long)
 
-pub always-unbuilt : (call : Call) (status : Status) (order : RunOrder) (told : List ℕ → Option (List ℕ)) (cia : ℕ) → Asks call (Run order) told → length (content_of told order.image) ≤ 16777216 → ReachesUnbuilt (content_of told order.image) order.cycles cia → Answers call status → (status ≡ Unbuilt) ⊎ IsUnanswered call status
-always-unbuilt call status order told cia asks short (cycle, stop) a = a.exactly (Run order) told Unbuilt (unbuilt_line cia) asks (fits (content_of told order.image) _ short ∙ ap (λ (o : Option (ℕ × ℕ)). unless_unbuilt o (TextOf order (content_of told order.image))) stop)
+pub always-unbuilt : (call : Call) (status : Status) (order : RunOrder) (told : List ℕ → Option (List ℕ)) (cia : ℕ) → Asks call (Run order) told → length (content_of told order.image) ≤ 16777216 → ReachesUnbuilt (boot_of (content_of told order.image)) order.cycles cia → Answers call status → (status ≡ Unbuilt) ⊎ IsUnanswered call status
+always-unbuilt call status order told cia asks short (cycle, stop) a = a.exactly (Run order) told Unbuilt (unbuilt_line cia) asks (fits (content_of told order.image) _ short ∙ ap (λ (o : Option (ℕ × ℕ)). unless_unbuilt o (TextOf (run_by order (content_of told order.image)))) stop)
 
 pub always-bad-input : (call : Call) (status : Status) (source : List ℕ) (told : List ℕ → Option (List ℕ)) (place : Place) → Asks call (Assemble source) told → assembled (content_of told source) ≡ Err place → Answers call status → (status ≡ BadInput) ⊎ IsUnanswered call status
 always-bad-input call status source told place asks bad a = a.exactly (Assemble source) told BadInput (bad_line source place.line place.column) asks (ap (unless_bad source) bad)
 
 -- ---- what is left is done where no call failed, unless memory is wanting
 
-pub complete-run : (call : Call) (status : Status) (order : RunOrder) (told : List ℕ → Option (List ℕ)) → Asks call (Run order) told → length (content_of told order.image) ≤ 16777216 → first_unbuilt (content_of told order.image) order.cycles ≡ None → ¬ (Rose call.host.before.faults call.host.after.faults) → ¬ (Rose call.out.before.faults call.out.after.faults) → Answers call status → (status ≡ Done) ⊎ (status ≡ NoMemory)
-complete-run call status order told asks short built host out a = a.complete (Run order) told (TextOf order (content_of told order.image)) asks (fits (content_of told order.image) _ short ∙ ap (λ (o : Option (ℕ × ℕ)). unless_unbuilt o (TextOf order (content_of told order.image))) built) host out
+pub complete-run : (call : Call) (status : Status) (order : RunOrder) (told : List ℕ → Option (List ℕ)) → Asks call (Run order) told → length (content_of told order.image) ≤ 16777216 → first_unbuilt (boot_of (content_of told order.image)) order.cycles ≡ None → ¬ (Rose call.host.before.faults call.host.after.faults) → ¬ (Rose call.out.before.faults call.out.after.faults) → Answers call status → (status ≡ Done) ⊎ (status ≡ NoMemory)
+complete-run call status order told asks short built host out a = a.complete (Run order) told (TextOf (run_by order (content_of told order.image))) asks (fits (content_of told order.image) _ short ∙ ap (λ (o : Option (ℕ × ℕ)). unless_unbuilt o (TextOf (run_by order (content_of told order.image)))) built) host out
 
 pub complete-source : (call : Call) (status : Status) (source : List ℕ) (told : List ℕ → Option (List ℕ)) (bytes : List ℕ) → Asks call (Assemble source) told → assembled (content_of told source) ≡ Ok bytes → ¬ (Rose call.host.before.faults call.host.after.faults) → ¬ (Rose call.out.before.faults call.out.after.faults) → Answers call status → (status ≡ Done) ⊎ (status ≡ NoMemory)
 complete-source call status source told bytes asks ok host out a = a.complete (Assemble source) told (Bytes bytes) asks (ap (unless_bad source) ok) host out

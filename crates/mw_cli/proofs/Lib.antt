@@ -8,3 +8,4 @@ pub mod CauseLemmas
 pub mod AnswerLemmas
 pub mod EachStatus
 pub mod ConstantStatus
+pub mod ImageLemmas

@@ -9,8 +9,9 @@ use Rattle.mw_cli.specs.declared.status.Status.TheVariants.{Done, ReadFault, Ima
 use Rattle.mw_cli.specs.declared.refusal.Refusal.{Refusal}
 use Rattle.mw_cli.specs.declared.refusal.Refusal.TheVariants.{Unreadable, Unwritable, TooLarge, Bad, OutOfMemory, NotBuilt}
 use Rattle.mw_cli.specs.Command.{RunOrder, Order, Run, Assemble, Disassemble, Wanted, files_of}
+use Rattle.mw_isa.specs.Start.{Boot, boot_of}
 use Rattle.mw_cli.specs.Headline.{SpellsRun}
-use Rattle.mw_cli.specs.Verdict.{TextOf, Bytes, Verdict, Writes, Refuses, verdict_of, unless_too_large, unless_unbuilt, unless_bad, too_large_line, unbuilt_line, bad_line}
+use Rattle.mw_cli.specs.Verdict.{TextOf, Bytes, Verdict, Writes, Refuses, run_by, verdict_of, unless_too_large, unless_unbuilt, unless_bad, too_large_line, unbuilt_line, bad_line}
 use Rattle.mw_cli.specs.Outside.{Change}
 use Rattle.mw_cli.specs.Answers.{ComesTo, Gives, IsUnread}
 use Rattle.mw_cli.specs.Stages.{ending, IsContent, IsAbsent, IsReadRefusal, IsLoadRefusal, IsRunRefusal, GivesNothing}
@@ -41,10 +42,10 @@ comes-listing : (host : Change HostState) (name image : List ℕ) (verdict : Ver
 comes-listing host name image verdict is e = (image ∷ [], one-content host.before.files name image is, e)
 
 -- a run gives its text
-gives-run : (host : Change HostState) (order : RunOrder) (image text : List ℕ) → IsContent host order.image image → SpellsRun image order.cycles order.dump text → Gives host (Run order) text
+gives-run : (host : Change HostState) (order : RunOrder) (image text : List ℕ) → IsContent host order.image image → SpellsRun (run_by order image) text → Gives host (Run order) text
 gives-run host order image text is spells =
-    let facts = spelled image text order.cycles order.dump spells in
-    (TextOf order image, comes-run host order image (Writes (TextOf order image)) is (fits image _ facts.0 ∙ ap (λ (o : Option (ℕ × ℕ)). unless_unbuilt o (TextOf order image)) facts.1), spells)
+    let facts = spelled (run_by order image) text spells in
+    (TextOf (run_by order image), comes-run host order image (Writes (TextOf (run_by order image))) is (fits image _ facts.0 ∙ ap (λ (o : Option (ℕ × ℕ)). unless_unbuilt o (TextOf (run_by order image))) facts.1), spells)
 
 -- a source gives its bytes
 pub gives-source : (host : Change HostState) (name bytes : List ℕ) → (source : List ℕ) × IsContent host name source × (assembled source ≡ Ok bytes) → Gives host (Assemble name) bytes
@@ -91,20 +92,20 @@ pub source-bad : (host : Change HostState) (name : List ℕ) (place : Place) →
 source-bad host name place (source, is, e) = comes-source host name source (Refuses BadInput (bad_line name place.line place.column)) is (ap (unless_bad name) e)
 
 -- why a run has no text
-run-stops : (host : Change HostState) (order : RunOrder) (image : List ℕ) (refusal : Refusal) → IsContent host order.image image → length image ≤ 16777216 → IsRunRefusal image order.cycles refusal → GivesNothing host (Run order) refusal
+run-stops : (host : Change HostState) (order : RunOrder) (image : List ℕ) (refusal : Refusal) → IsContent host order.image image → length image ≤ 16777216 → IsRunRefusal (boot_of image) order.cycles refusal → GivesNothing host (Run order) refusal
 run-stops host order image (Unreadable which) is short cause = absurd cause
 run-stops host order image TooLarge is short cause = absurd cause
-run-stops host order image (NotBuilt cia) is short (cycle, e) = comes-run host order image (Refuses Unbuilt (unbuilt_line cia)) is (fits image _ short ∙ ap (λ (o : Option (ℕ × ℕ)). unless_unbuilt o (TextOf order image)) e)
+run-stops host order image (NotBuilt cia) is short (cycle, e) = comes-run host order image (Refuses Unbuilt (unbuilt_line cia)) is (fits image _ short ∙ ap (λ (o : Option (ℕ × ℕ)). unless_unbuilt o (TextOf (run_by order image))) e)
 run-stops host order image (Bad name line column) is short cause = absurd cause
 run-stops host order image Unwritable is short cause = absurd cause
 run-stops host order image OutOfMemory is short cause = tt
 
 -- what a run gives, and why it gives nothing
-pub run-gives : (host : Change HostState) (order : RunOrder) (image : List ℕ) (r : Result (List ℕ) Refusal) → IsContent host order.image image → IfOk r (SpellsRun image order.cycles order.dump) → IfOk r (Gives host (Run order))
+pub run-gives : (host : Change HostState) (order : RunOrder) (image : List ℕ) (r : Result (List ℕ) Refusal) → IsContent host order.image image → IfOk r (SpellsRun (run_by order image)) → IfOk r (Gives host (Run order))
 run-gives host order image (Ok text) is spells = gives-run host order image text is spells
 run-gives host order image (Err refusal) is spells = tt
 
-pub run-refused : (host : Change HostState) (order : RunOrder) (image : List ℕ) (r : Result (List ℕ) Refusal) → IsContent host order.image image → length image ≤ 16777216 → IfErr r (IsRunRefusal image order.cycles) → IfErr r (GivesNothing host (Run order))
+pub run-refused : (host : Change HostState) (order : RunOrder) (image : List ℕ) (r : Result (List ℕ) Refusal) → IsContent host order.image image → length image ≤ 16777216 → IfErr r (IsRunRefusal (boot_of image) order.cycles) → IfErr r (GivesNothing host (Run order))
 run-refused host order image (Ok text) is short cause = tt
 run-refused host order image (Err refusal) is short cause = run-stops host order image refusal is short cause
 
@@ -117,14 +118,14 @@ pub stayed : (before after : ℕ) → Counts before after (Done ≡ ReadFault) �
 stayed before after counts = counts.stays (λ (e : Done ≡ ReadFault). cc)
 
 -- a run that has no text didn't fail to read
-run-read : (image : List ℕ) (n : ℕ) (refusal : Refusal) → IsRunRefusal image n refusal → ending {T = List ℕ} (Err refusal) ≡ ReadFault → ⊥
-run-read image n (Unreadable which) cause e = absurd cause
-run-read image n TooLarge cause e = absurd cause
-run-read image n (NotBuilt cia) cause e = cc
-run-read image n (Bad name line column) cause e = absurd cause
-run-read image n Unwritable cause e = absurd cause
-run-read image n OutOfMemory cause e = cc
+run-read : (boot : Boot) (n : ℕ) (refusal : Refusal) → IsRunRefusal boot n refusal → ending {T = List ℕ} (Err refusal) ≡ ReadFault → ⊥
+run-read boot n (Unreadable which) cause e = absurd cause
+run-read boot n TooLarge cause e = absurd cause
+run-read boot n (NotBuilt cia) cause e = cc
+run-read boot n (Bad name line column) cause e = absurd cause
+run-read boot n Unwritable cause e = absurd cause
+run-read boot n OutOfMemory cause e = cc
 
-pub run-calm : (image : List ℕ) (n before after : ℕ) (r : Result (List ℕ) Refusal) → after ≡ before → IfErr r (IsRunRefusal image n) → Counts before after (ending r ≡ ReadFault)
-run-calm image n before after (Ok text) e cause = calm before after (Done ≡ ReadFault) e (λ (same : Done ≡ ReadFault). cc)
-run-calm image n before after (Err refusal) e cause = calm before after (ending {T = List ℕ} (Err refusal) ≡ ReadFault) e (run-read image n refusal cause)
+pub run-calm : (boot : Boot) (n before after : ℕ) (r : Result (List ℕ) Refusal) → after ≡ before → IfErr r (IsRunRefusal boot n) → Counts before after (ending r ≡ ReadFault)
+run-calm boot n before after (Ok text) e cause = calm before after (Done ≡ ReadFault) e (λ (same : Done ≡ ReadFault). cc)
+run-calm boot n before after (Err refusal) e cause = calm before after (ending {T = List ℕ} (Err refusal) ≡ ReadFault) e (run-read boot n refusal cause)

@@ -1,26 +1,37 @@
--- A text that a run of an image prints: the events and the end that stand in it, and the last state that the machine
--- gives from them, are a run of the image, and the text is theirs, with the dump of the last state's RAM that is asked
--- for, and no more.
-use Rattle.std.specs.Prelude.{ℕ, ◌≡◌, List, Option, None, IsSomeAnd}
+-- A text that a run prints: the events and the end that stand in it, and the last state that the machine gives from
+-- them, are a run of what the board was started with, and the text is theirs, with the dump of the last state's RAM that
+-- is asked for, and no more.
+use Rattle.std.specs.Prelude.{ℕ, ◌≡◌, List, Option, None}
 use Rattle.std.specs.List.{range_with_len}
 use Rattle.mw_isa.specs.declared.access.Span.{Span}
+use Rattle.mw_isa.specs.declared.event.Event.{Event}
 use Rattle.mw_isa.specs.declared.event.End.{End}
 use Rattle.mw_isa.specs.State.{State}
-use Rattle.mw_isa.specs.Replay.{cycles_of, state_after}
+use Rattle.mw_isa.specs.Start.{Boot, boot_of}
+use Rattle.mw_isa.specs.Replay.{cycles_of}
 use Rattle.mw_isa.specs.Unbuilt.{first_unbuilt}
-use Rattle.mw_isa.specs.Runs.{Runs}
 use Rattle.mw_isa.specs.Text.{text_of}
-use Rattle.mw_isa.specs.Reading.{events_of, end_of}
+use Rattle.mw_isa.specs.Reading.{OnRun}
 
--- the text's events and this end are a run with this last state, and the text is theirs with this dump
-pub record Prints (image : List ℕ) (n : ℕ) (dump : Option Span) (text : List ℕ) (end : End) (last : State) : Type 0 where
-  pub runs : Runs image n (events_of text) end last
-  pub whole : text ≡ text_of (events_of text) end last dump
+-- a run that is asked for: what the board is started with, the number of cycles, and the stretch of RAM that is dumped
+pub record AskedRun : Type 0 where
+  pub boot : Boot
+  pub cycles : ℕ
+  pub dump : Option Span
+
+-- a run of an image alone
+abbrev pub run_of : List ℕ → ℕ → Option Span → AskedRun
+run_of image cycles dump = record { boot = boot_of image; cycles = cycles; dump = dump }
+
+-- the text is that of this run, which has these events, this end and this last state
+pub record Prints (run : AskedRun) (text : List ℕ) (events : List Event) (end : End) (last : State) : Type 0 where
+  -- it is theirs, with the dump, and no more
+  pub whole : text ≡ text_of events end last run.dump
   -- on the plain board event k has cycle k
-  pub each_cycle : cycles_of (events_of text) ≡ range_with_len 0 n
+  pub each_cycle : cycles_of events ≡ range_with_len 0 run.cycles
   -- and the run meets no instruction that isn't built
-  pub built : first_unbuilt image n ≡ None
+  pub built : first_unbuilt run.boot run.cycles ≡ None
 
--- the text is that of a run of the image for n cycles, with this dump
-unfoldable pub SpellsRun : List ℕ → ℕ → Option Span → List ℕ → Type 0
-SpellsRun image n dump text = IsSomeAnd (end_of text) (λ end. IsSomeAnd (state_after image (events_of text) n) (λ last. Prints image n dump text end last))
+-- the text is that of such a run
+abbrev pub SpellsRun : AskedRun → List ℕ → Type 0
+SpellsRun run text = OnRun run.boot run.cycles text (Prints run text)

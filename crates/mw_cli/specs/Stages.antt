@@ -2,6 +2,7 @@
 use Rattle.std.specs.Prelude.{ℕ, ◌+◌, ◌≡◌, ◌<◌, ◌⊎◌, List, length, take, Some, None, Result, Ok, Err, IfSome, IsSomeAnd, IsTrue, ⊤}
 use Rattle.mw_bus.specs.Memory.{ram_size}
 use Rattle.mw_io.specs.Outside.{HostState, SinkState, Rose, content_of}
+use Rattle.mw_isa.specs.Start.{Boot}
 use Rattle.mw_isa.specs.Unbuilt.{first_unbuilt}
 use Rattle.mw_cli.specs.declared.status.Status.{Status}
 use Rattle.mw_cli.specs.declared.status.Status.TheVariants.{Done}
@@ -54,15 +55,15 @@ abbrev pub IsLoadRefusal : Change HostState → List ℕ → Refusal → Type 0
 IsLoadRefusal host name TooLarge = IsTooLong host name
 IsLoadRefusal host name refusal = IsReadRefusal host name refusal
 
--- the first instruction that isn't built, of those that a run of the image reaches, is at this address
-abbrev pub ReachesUnbuilt : List ℕ → ℕ → ℕ → Type 0
-ReachesUnbuilt image n cia = (cycle : ℕ) × (first_unbuilt image n ≡ Some (cycle, cia))
+-- the first instruction that isn't built, of those that a run of the boot reaches, is at this address
+abbrev pub ReachesUnbuilt : Boot → ℕ → ℕ → Type 0
+ReachesUnbuilt boot n cia = (cycle : ℕ) × (first_unbuilt boot n ≡ Some (cycle, cia))
 
 -- why there is no text of a run
-abbrev pub IsRunRefusal : List ℕ → ℕ → Refusal → Type 0
-IsRunRefusal image n (NotBuilt cia) = ReachesUnbuilt image n cia
-IsRunRefusal image n OutOfMemory = ⊤
-IsRunRefusal image n refusal = ⊥
+abbrev pub IsRunRefusal : Boot → ℕ → Refusal → Type 0
+IsRunRefusal boot n (NotBuilt cia) = ReachesUnbuilt boot n cia
+IsRunRefusal boot n OutOfMemory = ⊤
+IsRunRefusal boot n refusal = ⊥
 
 -- why an order gives nothing to write: a file isn't read, memory is wanting, or the order comes to the refusal
 abbrev pub GivesNothing : Change HostState → Order → Refusal → Type 0

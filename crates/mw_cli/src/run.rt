@@ -1,7 +1,8 @@
 ghost use Rattle.std.specs.Prelude.{◌≡◌, ◌+◌, ◌≤◌, length, IfOk, IfErr, IfSome, IsTrue};
 ghost use Rattle.mw_bus.specs.Memory.{ram_size};
 ghost use Rattle.mw_cli.specs.Command.{Run, run_in, files_of};
-ghost use Rattle.mw_cli.specs.Headline.{SpellsRun};
+ghost use Rattle.mw_isa.specs.Start.{boot_of};
+ghost use Rattle.mw_cli.specs.Headline.{run_of, SpellsRun};
 ghost use Rattle.mw_io.specs.Outside.{Counts};
 ghost use Rattle.mw_cli.specs.declared.status.Status.TheVariants.{ReadFault};
 ghost use Rattle.mw_cli.specs.Outside.{change, Opens};
@@ -28,8 +29,8 @@ fn text_of_run<'a>(
     requires fits { length image.now ≤ ram_size }
     requires few { cycles ≤ 4000000 }
     requires room { IfSome dump (λ span. span.at + span.len ≤ ram_size) }
-    ensures text { IfOk result (SpellsRun image.now cycles dump) }
-    ensures refused { IfErr result (IsRunRefusal image.now cycles) }
+    ensures text { IfOk result (SpellsRun (run_of image.now cycles dump)) }
+    ensures refused { IfErr result (IsRunRefusal (boot_of image.now) cycles) }
 {
     let run = match simulate(alloc, image, cycles) {
         Ok(run) => run,

@@ -1,9 +1,10 @@
--- What holds of each row of the table, of registers by name, of a step, of a replay and of the devices.
+-- What holds of each row of the table, of registers by name, of a step, of a replay, of a run's text and of an access.
 pub mod SlotLaws
 pub mod RowLaws
 pub mod ReadLaws
 pub mod StepLaws
 pub mod ReplayLaws
+pub mod RunLaws
 pub mod StorageLaws
 pub mod PageLaws
 pub mod StorageCases

@@ -15,6 +15,7 @@ pub mod Storage
 pub mod Step
 pub mod Replay
 pub mod Unbuilt
+pub mod Stops
 pub mod Lively
 pub mod Runs
 pub mod Text

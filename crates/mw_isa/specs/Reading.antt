@@ -1,5 +1,5 @@
--- What a text spells: the events and the end that its lines are those of.
-use Rattle.std.specs.Prelude.{ℕ, ◌≡◌, ◌==◌, ◌^◌, ◌<◌, Bool, true, false, ◌&&◌, if◌then◌else◌, nat_lt, List, [], ◌∷◌, ◌++◌, Option, Some, None, is_some, IfSome, codes, bytes_eq, option_map, option_and_then}
+-- What a text spells: the events and the end that its lines are those of, and the run that these are.
+use Rattle.std.specs.Prelude.{ℕ, ◌≡◌, ◌==◌, ◌^◌, ◌<◌, Bool, true, false, ◌&&◌, if◌then◌else◌, nat_lt, List, [], ◌∷◌, ◌++◌, Option, Some, None, is_some, IfSome, IsSomeAnd, codes, bytes_eq, option_map, option_and_then}
 use Rattle.std.specs.Str.Parse.{digits_value}
 use Rattle.mw_isa.specs.declared.event.Event.{Event}
 use Rattle.mw_isa.specs.declared.event.Event.TheVariants.{Retire, Trap, Irq}
@@ -7,7 +7,11 @@ use Rattle.mw_isa.specs.declared.event.End.{End}
 use Rattle.mw_isa.specs.declared.event.End.TheVariants.{Ran}
 use Rattle.mw_isa.specs.declared.vector.Vector.{Vector}
 use Rattle.mw_isa.specs.declared.vector.Vector.TheVariants.{DataStorage, DataSegment, InstStorage, InstSegment, External, Alignment, Program, FpUnavailable, Decrementer, SystemCall, VectorUnavailable, VsxUnavailable}
-use Rattle.mw_isa.specs.Replay.{cycle_of_event}
+use Rattle.mw_isa.specs.State.{State}
+use Rattle.mw_isa.specs.Start.{Boot}
+use Rattle.mw_isa.specs.Replay.{cycle_of_event, state_after}
+use Rattle.mw_isa.specs.Stops.{stop_of}
+use Rattle.mw_isa.specs.Runs.{Runs}
 use Rattle.mw_isa.specs.Text.{event_words, end_words}
 
 -- the pieces before, between and behind a separator; the first one goes on with what was read of it
@@ -74,13 +78,9 @@ abbrev pub guess_end : List (List ℕ) → Option End
 guess_end (end ∷ ran ∷ cycle ∷ []) = Some (Ran (digits_value 10 cycle))
 guess_end words = None
 
--- the cycle of an end
-abbrev pub cycle_of_end : End → ℕ
-cycle_of_end (Ran cycle) = cycle
-
 -- the end of a cycle of 64 bits whose words these are, if there is one
 unfoldable pub end_by : List (List ℕ) → Option End
-end_by words = option_and_then (λ end. if same_words (end_words end) words && nat_lt (cycle_of_end end) (2 ^ 64) then Some end else None) (guess_end words)
+end_by words = option_and_then (λ end. if same_words (end_words end) words && nat_lt (stop_of end) (2 ^ 64) then Some end else None) (guess_end words)
 
 -- an event in front, and none where a line isn't an event's
 abbrev pub more_events : Option Event → List Event → List Event
@@ -119,3 +119,8 @@ FitsEnd (Ran cycle) = cycle < 2 ^ 64
 pub record Spells (text : List ℕ) (events : List Event) (end : End) : Type 0 where
   pub events_are : events_of text ≡ events
   pub end_is : end_of text ≡ Some end
+
+-- the events and the end that stand in a text, and the last state that the machine gives from them, are a run of this
+-- boot for n cycles, and this holds of them
+unfoldable pub OnRun : Boot → ℕ → List ℕ → (List Event → End → State → Type 0) → Type 0
+OnRun boot n text Holds = IsSomeAnd (end_of text) (λ end. IsSomeAnd (state_after boot (events_of text) (stop_of end)) (λ last. Runs boot n (events_of text) end last × Holds (events_of text) end last))

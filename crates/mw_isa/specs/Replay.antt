@@ -5,7 +5,7 @@ use Rattle.mw_isa.specs.declared.event.Event.TheVariants.{Retire, Trap, Irq}
 use Rattle.mw_isa.specs.declared.vector.Vector.{Vector}
 use Rattle.mw_isa.specs.Vectors.{address_of}
 use Rattle.mw_isa.specs.State.{State, brought}
-use Rattle.mw_isa.specs.Start.{start}
+use Rattle.mw_isa.specs.Start.{Boot, start}
 use Rattle.mw_isa.specs.Fetch.{word_of, suffix_of}
 use Rattle.mw_isa.specs.Step.{Raised, step, builds}
 
@@ -55,6 +55,6 @@ abbrev pub replay : List Event → State → Option State
 replay [] state = Some state
 replay (event ∷ events) state = option_and_then (replay events) (applied event state)
 
--- the state after events from the start with an image, its devices brought to the stop
-unfoldable pub state_after : List ℕ → List Event → ℕ → Option State
-state_after image events stop = option_map (brought stop) (replay events (start image))
+-- the state after events from the start of a boot, its devices brought to the stop
+unfoldable pub state_after : Boot → List Event → ℕ → Option State
+state_after boot events stop = option_map (brought stop) (replay events (start boot))

@@ -14,22 +14,23 @@ use Rattle.std.specs.List.Sorted.{IsStrictlyIncreasing}
 use Rattle.mw_bus.specs.Memory.{ram_size}
 use Rattle.mw_isa.specs.declared.event.Event.{Event}
 use Rattle.mw_isa.specs.declared.event.End.{End}
-use Rattle.mw_isa.specs.declared.event.End.TheVariants.{Ran}
 use Rattle.mw_isa.specs.State.{State}
+use Rattle.mw_isa.specs.Start.{Boot}
 use Rattle.mw_isa.specs.Replay.{cycles_of, state_after}
+use Rattle.mw_isa.specs.Stops.{stop_of, StopsBy}
 use Rattle.mw_isa.specs.Lively.{IsLively}
 
--- the events are a run of this image for n cycles, with this end and last state
-pub record Runs (image : List ℕ) (n : ℕ) (events : List Event) (end : End) (last : State) : Type 0 where
+-- the events are a run of this boot for n cycles, with this end and last state
+pub record Runs (boot : Boot) (n : ℕ) (events : List Event) (end : End) (last : State) : Type 0 where
   -- the image fits RAM
-  pub fits : length image ≤ ram_size
-  -- the run reached its number of cycles
-  pub stops : end ≡ Ran n
+  pub fits : length boot.image ≤ ram_size
+  -- the run stops where its end says: at n, if it ran
+  pub stops : StopsBy n end
   -- the cycles of the events rise
   pub rising : IsStrictlyIncreasing (cycles_of events)
   -- and are below the stop
-  pub below : All (λ cycle. cycle < n) (cycles_of events)
+  pub below : All (λ cycle. cycle < stop_of end) (cycles_of events)
   -- the machine replays the events, and the last state is what they leave at the stop
-  pub replayed : state_after image events n ≡ Some last
-  -- no 8,192 successive cycles are without an event
-  pub lively : IsLively events n
+  pub replayed : state_after boot events (stop_of end) ≡ Some last
+  -- no 8,192 successive cycles up to the stop are without an event
+  pub lively : IsLively events (stop_of end)

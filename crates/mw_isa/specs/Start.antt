@@ -1,9 +1,19 @@
 -- The start of the machine (this board's own, but for the meaning of MSR's bits: Book III, machine state register).
-use Rattle.std.specs.Prelude.{ℕ, List, None, replicate}
+use Rattle.std.specs.Prelude.{ℕ, List, [], None, replicate}
 use Rattle.mw_bus.specs.Memory.{ram_of}
 use Rattle.mw_isa.specs.declared.regs.Regs.{Regs}
 use Rattle.mw_soc.specs.Devices.{start_devices}
 use Rattle.mw_isa.specs.State.{State}
+
+-- what a board is started with: the bytes that stand in RAM, and the bytes that arrive at its UART, each behind the cycle
+-- at which it arrives
+pub record Boot : Type 0 where
+  pub image : List ℕ
+  pub script : List (ℕ × ℕ)
+
+-- an image alone: no byte arrives
+abbrev pub boot_of : List ℕ → Boot
+boot_of image = record { image = image; script = [] }
 
 -- every register is 0, but for SF, HV, ME and LE in MSR; nothing is reserved
 abbrev pub start_regs : Regs
@@ -29,6 +39,6 @@ start_regs = record {
   reserve = None;
 }
 
--- the image stands in RAM from address 0 on, and the devices stand at cycle 0
-unfoldable pub start : List ℕ → State
-start image = record { regs = start_regs; ram = ram_of image; devices = start_devices }
+-- the image stands in RAM from address 0 on, and the devices stand at cycle 0, all bytes of the script still to arrive
+unfoldable pub start : Boot → State
+start boot = record { regs = start_regs; ram = ram_of boot.image; devices = start_devices boot.script }

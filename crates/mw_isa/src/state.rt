@@ -1,3 +1,6 @@
+ghost use Rattle.std.specs.Prelude.{◌≡◌};
+ghost use Rattle.mw_isa.specs.Start.{start_regs};
+
 use crate::regs::Regs;
 use mw_bus::Ram;
 use mw_soc::Devices;
@@ -11,4 +14,24 @@ pub struct State {
     pub ram: Ram,
     /// The devices, at the cycle that the state is of.
     pub devices: Devices,
+}
+
+impl State {
+    /// A state with the registers as they are at the start, and this RAM and these devices.
+    pub fn new(ram: Ram, devices: Devices) -> State
+        ensures { result ≡ record { regs = start_regs; ram = ram; devices = devices } }
+    {
+        State {
+            regs: Regs::new(),
+            ram,
+            devices,
+        }
+    }
+
+    /// The effective address of the next instruction.
+    pub fn cia(&self) -> u64
+        ensures { result ≡ self.now.regs.cia }
+    {
+        self.regs.cia
+    }
 }

@@ -1,12 +1,12 @@
 -- The devices at any cycle (Book III, timer facilities; the rest is this board's own).
-use Rattle.std.specs.Prelude.{ℕ, ◌+◌, ◌-◌, ◌%◌, ◌^◌, Bool, nat_le, []}
+use Rattle.std.specs.Prelude.{ℕ, ◌+◌, ◌-◌, ◌%◌, ◌^◌, Bool, nat_le, List}
 use Rattle.mw_uart.specs.UartData.{start_uart}
 use Rattle.mw_uart.specs.UartAt.{uart_at}
 use Rattle.mw_soc.specs.DeviceData.{DeviceData}
 
--- the devices at cycle 0; no byte is to arrive
-abbrev pub start_devices : DeviceData
-start_devices = record { uart = start_uart []; dec = 0x7FFF_FFFF; dec_at = 0 }
+-- the devices at cycle 0 with no byte arrived, and the bytes that are to arrive, each behind its cycle
+abbrev pub start_devices : List (ℕ × ℕ) → DeviceData
+start_devices script = record { uart = start_uart script; dec = 0x7FFF_FFFF; dec_at = 0 }
 
 -- the cycle that they stand at, which is the time base
 abbrev pub cycle_of : DeviceData → ℕ

@@ -1,4 +1,4 @@
-ghost use Rattle.std.specs.Prelude.{◌≡◌, ◌+◌, ◌-◌, ◌/◌, ◌%◌, ◌^◌, ◌≤◌, ◌++◌, length, replicate, IfOk};
+ghost use Rattle.std.specs.Prelude.{◌≡◌, ◌+◌, ◌-◌, ◌/◌, ◌%◌, ◌^◌, ◌≤◌, ◌++◌, [], length, replicate, IfOk};
 ghost use Rattle.mw_soc.specs.Devices.{cycle_of, dec_of, dec_stands, devices_at, start_devices, with_dec};
 ghost use Rattle.mw_soc.specs.Map.{after_device_load, after_device_store, device_loaded, is_system, is_uart};
 
@@ -59,7 +59,7 @@ impl Devices {
     /// positive number. No byte arrives. The only error is want of memory.
     pub fn new(alloc: Global, room: u64) -> Result<Devices, NoMemory>
         requires { room ≤ 2 ^ 32 }
-        ensures { IfOk result (λ d. d ≡ record { devices = start_devices; room = room }) }
+        ensures { IfOk result (λ d. d ≡ record { devices = start_devices []; room = room }) }
     {
         Ok(Devices {
             uart: Uart::new(alloc, room)?,

@@ -1,21 +1,24 @@
-use Rattle.std.proofs.Common.{ap, ◌∙◌, arith}
+use Rattle.std.proofs.Common.{◌/◌, ap, ◌∙◌, arith}
 use Rattle.mw_soc.specs.DeviceData.{Housed}
+use Rattle.mw_isa.specs.declared.state.State.{State as Whole}
 use Rattle.mw_isa.specs.State.{seen}
-use Rattle.mw_board.proofs.RunLemmas.{made-init, made-next, made-end}
+use Rattle.mw_isa.specs.Start.{boot_of}
+use Rattle.mw_board.proofs.RunLemmas.{seen-start, made-init, made-next, made-end}
 use Rattle.mw_board.proofs.simulation.simulate.Goals as goal
 
 pub loop-cycle-init : goal.loop-cycle-init
 loop-cycle-init c = (
-  made-init c.args.image.now c.args.n c.new-events.result c.new-3.result c.in-Ok.ram c.in-Ok-new.devices.devices c.new-events.ensures c.new-3.ensures c.in-Ok.ensures (ap (λ (h : Housed). h.devices) c.in-Ok-new.ensures),
-  ap (λ (h : Housed). h.room) c.in-Ok-new.ensures,
+  made-init (boot_of c.args.image.now) c.args.n c.new-events.result (seen c.new-state.result) c.new-events.ensures
+      (seen-start (boot_of c.args.image.now) (c.args.n / 160) c.new-state.result c.in-Ok.ram c.in-Ok-new.devices c.new-state.ensures c.in-Ok.ensures c.in-Ok-new.ensures),
+  ap (λ (w : Whole). w.devices.room) c.new-state.ensures ∙ ap (λ (h : Housed). h.room) c.in-Ok-new.ensures,
 )
 
 pub loop-cycle-preserved : goal.loop-cycle-preserved
 loop-cycle-preserved c = (
-  made-next c.args.image.now c.args.n c.loop-cycle.events c.push.new.self c.loop-cycle.cycle c.in-Some.event (seen c.loop-cycle.state) (seen c.turned.new.state) c.advance.new.self.devices c.loop-cycle-test.true c.loop-cycle.invariant.0 (ap (λ (h : Housed). h.devices) c.advance.ensures) c.in-Some.ensures.turns c.in-Ok-push.ensures.ok,
+  made-next (boot_of c.args.image.now) c.args.n c.loop-cycle.events c.push.new.self c.loop-cycle.cycle c.in-Some.event (seen c.loop-cycle.state) (seen c.turned.new.state) c.advance.new.self.devices c.loop-cycle-test.true c.loop-cycle.invariant.0 (ap (λ (h : Housed). h.devices) c.advance.ensures) c.in-Some.ensures.turns c.in-Ok-push.ensures.ok,
   c.in-Some.ensures.room ∙ ap (λ (h : Housed). h.room) c.advance.ensures ∙ c.loop-cycle.invariant.1,
 )
 
 pub returns-clause-runs : goal.returns-clause-runs
 returns-clause-runs c =
-    made-end c.args.image.now c.args.n c.loop-cycle.events c.loop-cycle.cycle (seen c.loop-cycle.state) c.advance-2.new.self.devices (omega arith) (omega arith) c.loop-cycle.invariant.0 (ap (λ (h : Housed). h.devices) c.advance-2.ensures)
+    made-end (boot_of c.args.image.now) c.args.n c.loop-cycle.events c.ended.result.events c.loop-cycle.cycle c.ended.result.end (seen c.loop-cycle.state) (seen c.ended.result.state) c.loop-cycle.invariant.0 (omega arith) (omega arith) c.ended.ensures.events c.ended.ensures.end c.ended.ensures.last

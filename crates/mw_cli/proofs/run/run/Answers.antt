@@ -1,4 +1,5 @@
 use Rattle.std.proofs.Common.{List, ℕ, sym, ◌≤◌, length, subst}
+use Rattle.mw_isa.specs.Start.{boot_of}
 use Rattle.mw_cli.specs.Command.{run_in}
 use Rattle.mw_cli.specs.Outside.{change}
 use Rattle.mw_cli.specs.Stages.{IsContent}
@@ -24,4 +25,4 @@ returns-clause-refused g c =
 
 pub returns-clause-faults : goal.returns-clause-faults
 returns-clause-faults g c =
-    run-calm c.as_slice.result.now c.args.command.now.cycles (g.H.Host.state c.args.host.now).faults (g.H.Host.state c.read_image.new.host).faults c.text_of_run.result (stayed _ _ c.in-Ok.ensures.faults) c.text_of_run.ensures.refused
+    run-calm (boot_of c.as_slice.result.now) c.args.command.now.cycles (g.H.Host.state c.args.host.now).faults (g.H.Host.state c.read_image.new.host).faults c.text_of_run.result (stayed _ _ c.in-Ok.ensures.faults) c.text_of_run.ensures.refused
