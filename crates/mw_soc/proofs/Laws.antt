@@ -1,12 +1,14 @@
--- What a load and a store leave of the devices.
-use Rattle.std.proofs.Common.{◌≡◌, ℕ, ◌≤◌, Bool, true, false, List, [], ◌∷◌, cond, refl, ap, ◌∙◌, arith}
+-- What a load and a store leave of the devices, and how much a load gives.
+use Rattle.std.proofs.Common.{◌≡◌, ℕ, ◌+◌, ◌-◌, ◌%◌, ◌≤◌, ◌==◌, Bool, true, false, List, [], ◌∷◌, length, cond, refl, sym, ap, ◌∙◌, arith}
+use Rattle.std.proofs.lemmas.Bool.{cond_both, eqb-true}
+use Rattle.std.proofs.lemmas.List.{length-replicate}
 use Rattle.mw_uart.specs.UartData.{UartData, Roomy}
 use Rattle.mw_uart.specs.UartAt.{uart_at}
 use Rattle.mw_uart.specs.Registers.{after_load, after_store}
-use Rattle.mw_uart.proofs.Laws.{cycle-uart_at, cycle-after_load, cycle-after_store, uart_at-then, uart_at-rising, brought_by, Rises, last_of}
+use Rattle.mw_uart.proofs.Laws.{cycle-uart_at, cycle-after_load, cycle-after_store, length-loaded, uart_at-then, uart_at-rising, brought_by, Rises, last_of}
 use Rattle.mw_soc.specs.DeviceData.{DeviceData, Housed}
 use Rattle.mw_soc.specs.Devices.{cycle_of, devices_at}
-use Rattle.mw_soc.specs.Map.{is_uart, after_device_load, after_device_store}
+use Rattle.mw_soc.specs.Map.{is_uart, is_system, system_loaded, device_loaded, after_device_load, after_device_store}
 
 -- the devices with another UART
 abbrev with_uart : DeviceData → UartData → DeviceData
@@ -30,6 +32,15 @@ cycle-device_load devices at = one-cycle (is_uart at) _ devices (cycle_of device
 pub cycle-device_store : (devices : DeviceData) (at : ℕ) (bytes : List ℕ) → cycle_of (after_device_store devices at bytes) ≡ cycle_of devices
 unfolding after_device_store
 cycle-device_store devices at bytes = one-cycle (is_uart at) _ devices (cycle_of devices) (cycle-after_store devices.uart _ bytes) refl
+
+-- a load that lies in one slot of 8 gives as many bytes as its width says
+pub length-device_loaded : (devices : DeviceData) (at width : ℕ) → at % 8 + width ≤ 8 → length (device_loaded devices at width) ≡ width
+unfolding device_loaded system_loaded
+length-device_loaded devices at width fits =
+    cond_both (is_uart at) _ _ (λ (bytes : List ℕ). length bytes ≡ width) (λ _. length-loaded devices.uart (at - 0xC000_2000) width (omega arith))
+    (λ _. cond_both (is_system at) _ _ (λ (bytes : List ℕ). length bytes ≡ width)
+    (λ _. cond_both (width == 8) _ _ (λ (bytes : List ℕ). length bytes ≡ width) (λ e. sym (eqb-true width 8 e)) (λ _. length-replicate width 0))
+    (λ _. length-replicate width 255))
 
 -- a cycle that isn't after the UART's isn't after that of the UART brought on
 pub kept-advance : (old new : Roomy) (now : Housed) (cycle dec_at : ℕ) → new ≡ record old { uart = uart_at old.uart cycle } → old.uart.cycle ≡ cycle_of now.devices → cycle_of now.devices ≤ cycle → dec_at ≤ old.uart.cycle → dec_at ≤ new.uart.cycle

@@ -1,2 +1,2 @@
--- What no call changes of the devices.
+-- What no call changes of the devices, and how much a load gives.
 pub mod Laws

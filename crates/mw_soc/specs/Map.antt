@@ -1,7 +1,7 @@
 -- The board's map outside RAM (this board's own).
 use Rattle.std.specs.Prelude.{ℕ, ◌-◌, ◌==◌, Bool, ◌&&◌, if◌then◌else◌, nat_lt, nat_le, List, replicate}
 use Rattle.std.specs.Int.{w64, to_le_bytes}
-use Rattle.mw_uart.specs.Registers.{padded, loaded, after_load, after_store}
+use Rattle.mw_uart.specs.Registers.{loaded, after_load, after_store}
 use Rattle.mw_soc.specs.DeviceData.{DeviceData}
 
 -- the system controller stands at a real address
@@ -21,16 +21,16 @@ system_number offset =
     else if offset == 0x20 then 100000000
     else 0
 
--- the bytes that a load there gives, and zeros behind them up to 8: only a load of 8 bytes gives a doubleword, little-endian
+-- the bytes that a load there gives: only one of 8 bytes gives a doubleword, little-endian, and any other zeros
 unfoldable pub system_loaded : ℕ → ℕ → List ℕ
-system_loaded offset width = if width == 8 then to_le_bytes w64 (system_number offset) else replicate 8 0
+system_loaded offset width = if width == 8 then to_le_bytes w64 (system_number offset) else replicate width 0
 
--- the bytes that a load outside RAM gives, and zeros behind them up to 8: all ones where no device is
+-- the bytes that a load outside RAM gives, as many as it asks for: all ones where no device is
 unfoldable pub device_loaded : DeviceData → ℕ → ℕ → List ℕ
 device_loaded devices at width =
     if is_uart at then loaded devices.uart (at - 0xC000_2000) width
     else if is_system at then system_loaded (at - 0xC000_0000) width
-    else padded (replicate width 255)
+    else replicate width 255
 
 -- the devices after a load outside RAM
 unfoldable pub after_device_load : DeviceData → ℕ → DeviceData

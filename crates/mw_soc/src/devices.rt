@@ -1,5 +1,4 @@
-ghost use Rattle.std.specs.Prelude.{◌≡◌, ◌+◌, ◌/◌, ◌%◌, ◌^◌, ◌≤◌, length, replicate, IfOk};
-ghost use Rattle.mw_uart.specs.Registers.{padded};
+ghost use Rattle.std.specs.Prelude.{◌≡◌, ◌+◌, ◌-◌, ◌/◌, ◌%◌, ◌^◌, ◌≤◌, ◌++◌, length, replicate, IfOk};
 ghost use Rattle.mw_soc.specs.Devices.{cycle_of, dec_of, dec_stands, devices_at, start_devices, with_dec};
 ghost use Rattle.mw_soc.specs.Map.{after_device_load, after_device_store, device_loaded, is_system, is_uart};
 
@@ -48,7 +47,7 @@ fn is_system(at: u64) -> bool
 /// So many bytes of all ones, with zeros behind them.
 fn ones(width: u8) -> [u8; 8]
     requires { width ≤ 8 }
-    ensures { result ≡ padded (replicate width 255) }
+    ensures { result ≡ replicate width 255 ++ replicate (8 - width) 0 }
 {
     let mut bytes = [0; 8];
     bytes[..usize::from(width)].fill(255);
@@ -84,7 +83,7 @@ impl Devices {
     pub fn load(&mut self, at: u64, width: u8) -> [u8; 8]
         requires some { 1 ≤ width }
         requires one_slot { at % 8 + width ≤ 8 }
-        ensures value { result ≡ device_loaded self.old.devices at width }
+        ensures value { result ≡ device_loaded self.old.devices at width ++ replicate (8 - width) 0 }
         ensures after { self.new ≡ record self.old { devices = after_device_load self.old.devices at } }
     {
         if is_uart(at) {

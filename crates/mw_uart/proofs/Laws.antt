@@ -1,10 +1,11 @@
 -- The laws of the UART at any cycle.
-use Rattle.std.proofs.Common.{◌≡◌, ℕ, zero, suc, ◌+◌, ◌-◌, ◌*◌, ◌%◌, ◌^◌, ◌<◌, ◌≤◌, ◌==◌, Bool, true, false, ◌||◌, cond, nat_lt, nat_le, ⊎_elim, List, [], ◌∷◌, ◌++◌, length, map, take, drop, refl, sym, ap, ap₂, subst, zero-add, ◌∙◌, arith, append_assoc, take-add, drop-drop, length-drop, le-leb}
+use Rattle.std.proofs.Common.{◌≡◌, ℕ, zero, suc, ◌+◌, ◌-◌, ◌*◌, ◌/◌, ◌%◌, ◌^◌, ◌<◌, ◌≤◌, ◌==◌, Bool, true, false, ◌||◌, cond, nat_lt, nat_le, ⊎_elim, List, [], ◌∷◌, ◌++◌, length, map, take, drop, refl, sym, ap, ap₂, subst, zero-add, ◌∙◌, arith, append_assoc, take-add, drop-drop, length-drop, length-take-le, le-leb}
+use Rattle.std.specs.Int.{w64, to_le_bytes}
 use Rattle.std.proofs.lemmas.List.{map-append}
 use Rattle.std.proofs.lemmas.Bool.{eqb-true, or_cases, cond_both, cases_lt, cond-true, cond-false, lt-leb}
 use Rattle.mw_uart.specs.UartData.{UartData, period_of}
 use Rattle.mw_uart.specs.UartAt.{arrived_by, sent_by, next_due, uart_at}
-use Rattle.mw_uart.specs.Registers.{after_load, after_store, with_number, with_tx}
+use Rattle.mw_uart.specs.Registers.{slot_of, loaded, after_load, after_store, with_number, with_tx}
 use Rattle.byteorder.specs.Endian.{little_number}
 use Rattle.mw_uart.specs.Inside.{IsSent}
 use Rattle.mw_uart.proofs.SentLemmas.{same_parts, is_sent, sent_once, due_later, due_none}
@@ -177,6 +178,13 @@ cycle-after_store uart offset bytes =
     cond_both (offset == 0) _ _ (λ (u : UartData). u.cycle ≡ uart.cycle) (λ _. cycle-with_tx uart (little_number (length bytes) bytes % 2 ^ 8))
     (λ _. cond_both (offset == 0x18) _ _ (λ (u : UartData). u.cycle ≡ uart.cycle) (λ _. refl)
     (λ _. cond_both (offset == 0x20) _ _ (λ (u : UartData). u.cycle ≡ uart.cycle) (λ _. refl) (λ _. refl)))
+
+-- a load that lies in one slot gives as many bytes as its width says
+pub length-loaded : (uart : UartData) (offset width : ℕ) → offset % 8 + width ≤ 8 → length (loaded uart offset width) ≡ width
+unfolding loaded
+length-loaded uart offset width fits =
+    length-take-le width (drop (offset % 8) (to_le_bytes w64 (slot_of uart (offset / 8))))
+    (omega (arith, length-drop (offset % 8) (to_le_bytes w64 (slot_of uart (offset / 8)))))
 
 -- an access of a width that is known
 by_width : (offset width k : ℕ) → width ≡ k → (offset % width == 0) ≡ true → (offset % k ≡ 0 → offset % 8 + k ≤ 8) → offset % 8 + width ≤ 8

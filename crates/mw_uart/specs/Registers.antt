@@ -1,12 +1,8 @@
 -- The UART's registers: five slots of 8 bytes, little-endian, TX at 0, RX at 8, STATUS at 0x10, CLOCK_DIV at 0x18 and IRQ_EN at 0x20.
-use Rattle.std.specs.Prelude.{ℕ, ◌+◌, ◌-◌, ◌/◌, ◌%◌, ◌^◌, ◌==◌, Bool, not, ◌&&◌, ◌||◌, if◌then◌else◌, nat_lt, List, [], ◌∷◌, ◌++◌, length, replicate, take, drop, slice_index}
+use Rattle.std.specs.Prelude.{ℕ, ◌+◌, ◌/◌, ◌%◌, ◌^◌, ◌==◌, Bool, not, ◌&&◌, ◌||◌, if◌then◌else◌, nat_lt, List, [], ◌∷◌, ◌++◌, length, take, drop, slice_index}
 use Rattle.std.specs.Int.{w64, to_le_bytes}
 use Rattle.byteorder.specs.Endian.{little_number}
 use Rattle.mw_uart.specs.UartData.{UartData, period_of}
-
--- an access's bytes with zeros behind them up to 8
-abbrev pub padded : List ℕ → List ℕ
-padded bytes = bytes ++ replicate (8 - length bytes) 0
 
 -- a bit of STATUS
 abbrev pub flag : Bool → ℕ → ℕ
@@ -27,9 +23,9 @@ slot_of uart slot =
     else if slot == 4 then uart.enable
     else 0
 
--- the bytes that a load gives: those of the slot that it covers, and zeros behind them up to 8
+-- the bytes that a load gives: those of the slot that it covers
 unfoldable pub loaded : UartData → ℕ → ℕ → List ℕ
-loaded uart offset width = padded (take width (drop (offset % 8) (to_le_bytes w64 (slot_of uart (offset / 8)))))
+loaded uart offset width = take width (drop (offset % 8) (to_le_bytes w64 (slot_of uart (offset / 8))))
 
 -- the UART after a load: RX's first byte takes the oldest received byte out
 unfoldable pub after_load : UartData → ℕ → UartData

@@ -1,8 +1,8 @@
-ghost use Rattle.std.specs.Prelude.{◌≡◌, ℕ, ◌+◌, ◌*◌, ◌/◌, ◌%◌, ◌^◌, ◌<◌, ◌≤◌, [], ◌++◌, length, take, drop, slice_index, if◌then◌else◌, IfOk, vec_len, vec_capacity};
+ghost use Rattle.std.specs.Prelude.{◌≡◌, ℕ, ◌+◌, ◌-◌, ◌*◌, ◌/◌, ◌%◌, ◌^◌, ◌<◌, ◌≤◌, [], ◌++◌, length, replicate, take, drop, slice_index, if◌then◌else◌, IfOk, vec_len, vec_capacity};
 ghost use Rattle.std.specs.Int.{w64, to_le_bytes};
 ghost use Rattle.mw_uart.specs.UartData.{start_uart, period_of};
 ghost use Rattle.mw_uart.specs.UartAt.{uart_at, sent_by, next_due};
-ghost use Rattle.mw_uart.specs.Registers.{padded, status_of, slot_of, loaded, after_load, with_tx, with_number, after_store, line_of};
+ghost use Rattle.mw_uart.specs.Registers.{status_of, slot_of, loaded, after_load, with_tx, with_number, after_store, line_of};
 
 use byteorder::{ByteOrder, LittleEndian};
 use circular_buffer::HeapCircularBuffer;
@@ -117,7 +117,7 @@ fn flag(is: bool, bit: u64) -> u64
 /// The bytes of a slot from `at` on, as many as the width says, and zeros behind them.
 fn covered(slot: u64, at: usize, width: usize) -> [u8; 8]
     requires { at + width ≤ 8 }
-    ensures { result ≡ padded (take width (drop at (to_le_bytes w64 slot))) }
+    ensures { result ≡ take width (drop at (to_le_bytes w64 slot)) ++ replicate (8 - width) 0 }
 {
     let all = slot.to_le_bytes();
     let mut bytes = [0; 8];
@@ -206,7 +206,7 @@ impl Uart {
     pub fn load(&mut self, offset: u32, width: u8) -> [u8; 8]
         requires some { 1 ≤ width }
         requires one_slot { offset % 8 + width ≤ 8 }
-        ensures value { result ≡ loaded self.old.uart offset width }
+        ensures value { result ≡ loaded self.old.uart offset width ++ replicate (8 - width) 0 }
         ensures after { self.new ≡ record self.old { uart = after_load self.old.uart offset } }
     {
         let bytes = covered(
