@@ -1,7 +1,7 @@
 -- An access to storage in real mode (Book I, storage operands; Book II, atomic update, cache management and the
 -- reservation; Book III, real addressing). Which accesses raise an alignment interrupt, and the blocks of 64 bytes, are
 -- this board's own choice; Book III has what the interrupt is.
-use Rattle.std.specs.Prelude.{ℕ, ◌≡◌, ◌+◌, ◌-◌, ◌*◌, ◌/◌, ◌%◌, ◌^◌, ◌==◌, Bool, true, false, not, ◌&&◌, ◌||◌, if◌then◌else◌, nat_lt, nat_le, List, [], ◌∷◌, take, replicate, Option, Some, None}
+use Rattle.std.specs.Prelude.{ℕ, ◌≡◌, ◌+◌, ◌-◌, ◌*◌, ◌/◌, ◌%◌, ◌^◌, ◌==◌, Bool, true, false, not, ◌&&◌, ◌||◌, if◌then◌else◌, nat_lt, nat_le, List, [], ◌∷◌, replicate, Option, Some, None}
 use Rattle.mw_bits.specs.Fields.{sext_of}
 use Rattle.mw_bus.specs.Memory.{ram_size, bytes_at, laid, number_of, bytes_of}
 use Rattle.mw_soc.specs.DeviceData.{DeviceData}
@@ -95,7 +95,7 @@ extended signed len number = if signed then sext_of number (8 * len) else number
 
 -- the bytes that a load gives: RAM's, or what stands outside RAM gives
 abbrev pub load_bytes : MemOp → List ℕ → DeviceData → List ℕ
-load_bytes op ram devices = if is_in_ram op then bytes_at ram (real_byte op) op.len else take op.len (device_loaded devices (real_byte op) op.len)
+load_bytes op ram devices = if is_in_ram op then bytes_at ram (real_byte op) op.len else device_loaded devices (real_byte op) op.len
 
 -- the number that the bytes of a load hold, extended; of any other access 0
 abbrev pub loaded_number : MemWhat → ℕ → List ℕ → ℕ

@@ -17,7 +17,7 @@ bytes-read ram at real k len bytes same sized read =
 pub load-there : (op : MemOp) (ram : List ℕ) (devices : DeviceData) (at k : ℕ) (bytes : List ℕ) → at ≡ real_byte op → k ≡ op.len → bytes ≡ padded (bytes_at ram at k) → true ≡ is_in_ram op → take op.len bytes ≡ load_bytes op ram devices
 load-there op ram devices at k bytes same sized read there =
     bytes-read ram at (real_byte op) k op.len bytes same sized read
-    ∙ ap (λ (b : Bool). cond b (bytes_at ram (real_byte op) op.len) (take op.len (device_loaded devices (real_byte op) op.len))) there
+    ∙ ap (λ (b : Bool). cond b (bytes_at ram (real_byte op) op.len) (device_loaded devices (real_byte op) op.len)) there
 
 -- bytes that are laid in two pieces
 pieces-laid : (ram : List ℕ) (at front : ℕ) (bytes : List ℕ) → at + length bytes < 2 ^ 60 → front ≤ length bytes → laid (laid ram at (take front bytes)) (at + front) (drop front bytes) ≡ laid ram at bytes
