@@ -14,7 +14,7 @@ ghost use Rattle.mw_asm.specs.Disassembly.{operand_text, operands_text, behind_n
 use mw_bits::Bytes;
 use mw_decode::{Decoded, Insn, decode, is_prefix};
 use mw_digits::{add_hex, add_short_hex, add_signed};
-use mw_syntax::{Item, Kind, items_of_shape, shape_of_row};
+use mw_syntax::{Item, Kind, items_of, shape_at};
 use mw_tables::rows;
 use std::alloc::{AllocError as NoMemory, Global};
 
@@ -35,7 +35,7 @@ fn name_at(place: u16) -> &'static str
 fn items_of_row(place: u16) -> &'static [Item]
     ensures { result.now ≡ items_of (shape_at place) }
 {
-    items_of_shape(shape_of_row(place))
+    items_of(shape_at(place))
 }
 
 /// Appends the ending of a form, where it is chosen.

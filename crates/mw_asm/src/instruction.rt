@@ -15,10 +15,9 @@ use arrayvec::ArrayVec;
 use mw_bits::Bytes;
 use mw_decode::{Code, Insn, encode, is_illegal_form};
 use mw_syntax::{
-    Expression, Item, Kind, LineFault, Mnemonic, Pattern, Refusal, What, pattern_items,
-    shape_of_row,
+    Expression, Item, Kind, LineFault, Mnemonic, Pattern, Refusal, What, pattern_items, shape_at,
 };
-use mw_tables::{Field, fields_of_layout, layout_at};
+use mw_tables::{Field, fields_of, layout_at};
 use std::alloc::AllocError as NoMemory;
 
 /// The operand that an expression stands for in a field, or its refusal: of its label, then of its range.
@@ -153,7 +152,7 @@ fn filled(pattern: Pattern, written: ArrayVec<i64, 6>) -> ArrayVec<i64, 6>
 fn kinds_for(mnemonic: Mnemonic) -> ArrayVec<Kind, 6>
     ensures { result.items ≡ kinds_of (pattern_items mnemonic.pattern (shape_at mnemonic.row)) }
 {
-    kinds_of(pattern_items(mnemonic.pattern, shape_of_row(mnemonic.row)))
+    kinds_of(pattern_items(mnemonic.pattern, shape_at(mnemonic.row)))
 }
 
 /// Where the operands of the row at a place stand.
@@ -162,7 +161,7 @@ fn fields_at(place: u16) -> &'static [Field]
     ensures value { result.now ≡ fields_at place }
     ensures readable { IsTrue (list_all is_readable result.now) }
 {
-    fields_of_layout(layout_at(place))
+    fields_of(layout_at(place))
 }
 
 /// The instruction of a mnemonic with the operands that are written.

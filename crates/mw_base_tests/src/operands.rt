@@ -1,9 +1,7 @@
 ghost use Rattle.std.specs.Prelude.{IsTrue};
 ghost use Rattle.mw_tables.specs.Layouts.{is_readable};
 
-use mw_tables::{
-    Field, Layout, fields_of_layout, flags_of_row, is_in_field, read_operand, row_at, write_operand,
-};
+use mw_tables::{Field, Layout, code_with, fields_of, flags_of, is_in_field, operand_in, row_at};
 use std::process::Abort;
 
 /// The code of an instruction, and the operand that it has in a field.
@@ -13,10 +11,10 @@ struct Case(u64, i64);
 fn reads(rt: &impl Abort, field: &Field, cases: &[Case])
     requires { IsTrue (is_readable field.now) }
 {
-    let mask = write_operand(-1, field);
+    let mask = code_with(-1, field);
     for Case(code, operand) in cases {
-        assert_eq!(rt; read_operand(*code, field), *operand, "{code:x}");
-        assert_eq!(rt; write_operand(*operand, field), *code & mask, "{code:x}");
+        assert_eq!(rt; operand_in(*code, field), *operand, "{code:x}");
+        assert_eq!(rt; code_with(*operand, field), *code & mask, "{code:x}");
     }
 }
 
@@ -100,23 +98,15 @@ static R_WIDE_CASES: [Case; 2] = [
 #[test]
 fn operands_stand_in_their_bits(rt: HostRuntime) {
     // D of DX, SPR, SH and MB of MD, DS, LI, BD, D in 34 bits, R of the prefix
-    reads(&rt, &fields_of_layout(Layout::DxRtD)[1], &DX_D_CASES);
-    reads(&rt, &fields_of_layout(Layout::XfxRtSpr)[1], &SPR_CASES);
-    reads(
-        &rt,
-        &fields_of_layout(Layout::MdRaRsShMb)[2],
-        &SH_WIDE_CASES,
-    );
-    reads(
-        &rt,
-        &fields_of_layout(Layout::MdRaRsShMb)[3],
-        &MASK_END_CASES,
-    );
-    reads(&rt, &fields_of_layout(Layout::DsRtDRa)[1], &DS_CASES);
-    reads(&rt, &fields_of_layout(Layout::ITarget)[0], &LI_CASES);
-    reads(&rt, &fields_of_layout(Layout::BBoBiTarget)[2], &BD_CASES);
-    reads(&rt, &fields_of_layout(Layout::MlsRtRaSiR)[2], &D_WIDE_CASES);
-    reads(&rt, &fields_of_layout(Layout::MlsRtRaSiR)[3], &R_WIDE_CASES);
+    reads(&rt, &fields_of(Layout::DxRtD)[1], &DX_D_CASES);
+    reads(&rt, &fields_of(Layout::XfxRtSpr)[1], &SPR_CASES);
+    reads(&rt, &fields_of(Layout::MdRaRsShMb)[2], &SH_WIDE_CASES);
+    reads(&rt, &fields_of(Layout::MdRaRsShMb)[3], &MASK_END_CASES);
+    reads(&rt, &fields_of(Layout::DsRtDRa)[1], &DS_CASES);
+    reads(&rt, &fields_of(Layout::ITarget)[0], &LI_CASES);
+    reads(&rt, &fields_of(Layout::BBoBiTarget)[2], &BD_CASES);
+    reads(&rt, &fields_of(Layout::MlsRtRaSiR)[2], &D_WIDE_CASES);
+    reads(&rt, &fields_of(Layout::MlsRtRaSiR)[3], &R_WIDE_CASES);
 }
 
 /// A field holds the operands inside, and not those outside.
@@ -137,48 +127,48 @@ fn ranges_end_where_they_should(rt: HostRuntime) {
     let addi = row_at(0);
     assert!(rt; b.name == "b" && addi.name == "addi");
     // RT, LK of a row that has it and of one that doesn't, UI, SI, D of DX, DS, BD, LI, D in 34 bits
-    holds(&rt, &fields_of_layout(Layout::XRt)[0], &[0, 31], &[-1, 32]);
-    holds(&rt, &flags_of_row(b)[3], &[0, 1], &[-1, 2]);
-    holds(&rt, &flags_of_row(addi)[3], &[0], &[-1, 1]);
+    holds(&rt, &fields_of(Layout::XRt)[0], &[0, 31], &[-1, 32]);
+    holds(&rt, &flags_of(b)[3], &[0, 1], &[-1, 2]);
+    holds(&rt, &flags_of(addi)[3], &[0], &[-1, 1]);
     holds(
         &rt,
-        &fields_of_layout(Layout::DRaRsUi)[2],
+        &fields_of(Layout::DRaRsUi)[2],
         &[0, 65535],
         &[-1, 65536],
     );
     holds(
         &rt,
-        &fields_of_layout(Layout::DRtRaSi)[2],
+        &fields_of(Layout::DRtRaSi)[2],
         &[-32768, 32767],
         &[-32769, 32768, i64::MIN, i64::MAX],
     );
     holds(
         &rt,
-        &fields_of_layout(Layout::DxRtD)[1],
+        &fields_of(Layout::DxRtD)[1],
         &[-32768, 32767],
         &[-32769, 32768],
     );
     holds(
         &rt,
-        &fields_of_layout(Layout::DsRtDRa)[1],
+        &fields_of(Layout::DsRtDRa)[1],
         &[-32768, 32764],
         &[-32772, 32768, -1, 1, 2, 3, 32767],
     );
     holds(
         &rt,
-        &fields_of_layout(Layout::BBoBiTarget)[2],
+        &fields_of(Layout::BBoBiTarget)[2],
         &[-32768, 32764],
         &[-32772, 32768, 2],
     );
     holds(
         &rt,
-        &fields_of_layout(Layout::ITarget)[0],
+        &fields_of(Layout::ITarget)[0],
         &[-33_554_432, 33_554_428],
         &[-33_554_436, 33_554_432, -2, 33_554_430],
     );
     holds(
         &rt,
-        &fields_of_layout(Layout::MlsRtRaSiR)[2],
+        &fields_of(Layout::MlsRtRaSiR)[2],
         &[-8_589_934_592, 8_589_934_591],
         &[-8_589_934_593, 8_589_934_592],
     );

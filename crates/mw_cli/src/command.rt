@@ -43,7 +43,7 @@ pub enum Command<'a> {
 }
 
 /// Whether a word can be a name: it isn't empty and doesn't begin with a minus.
-fn can_name(word: &str) -> bool
+fn is_name(word: &str) -> bool
     ensures { result ≡ is_name word.now }
 {
     match word.as_bytes() {
@@ -60,7 +60,7 @@ fn is_decimal(number: u64, word: &str) -> bool
 }
 
 /// The number that a word writes in decimal digits without a leading zero, if it isn't too great.
-fn number(word: &str, most: u64) -> Option<u64>
+fn number_up_to(most: u64, word: &str) -> Option<u64>
     ensures value { result ≡ number_up_to most word.now }
     ensures small { IfSome result (λ n. n ≤ most) }
 {
@@ -77,12 +77,12 @@ fn number(word: &str, most: u64) -> Option<u64>
 }
 
 /// The stretch of RAM that two words name, its address and its length, if it is one.
-fn read_parts(at: &str, len: &str) -> Option<Span>
+fn span_by(at: &str, len: &str) -> Option<Span>
     ensures value { result ≡ span_by at.now len.now }
     ensures room { IfSome result (λ span. span.at + span.len ≤ ram_size) }
 {
-    let at = number(at, RAM_BYTES)?;
-    let len = number(len, MOST_DUMPED)?;
+    let at = number_up_to(RAM_BYTES, at)?;
+    let len = number_up_to(MOST_DUMPED, len)?;
     if len >= 1 && at + len <= RAM_BYTES {
         Some(Span {
             at: at as u32,
@@ -94,23 +94,23 @@ fn read_parts(at: &str, len: &str) -> Option<Span>
 }
 
 /// The stretch of RAM that a word A:L names, if it is one.
-fn read_span(word: &str) -> Option<Span>
+fn span_of(word: &str) -> Option<Span>
     ensures value { result ≡ span_of word.now }
     ensures room { IfSome result (λ span. span.at + span.len ≤ ram_size) }
 {
     match word.split_once(':') {
-        Some((at, len)) => read_parts(at, len),
+        Some((at, len)) => span_by(at, len),
         None => None,
     }
 }
 
 /// The stretch of RAM that an option and its word ask for, if it is a dump's.
-fn read_dump(option: &str, word: &str) -> Option<Span>
+fn dump_by(option: &str, word: &str) -> Option<Span>
     ensures value { result ≡ dump_by option.now word.now }
     ensures room { IfSome result (λ span. span.at + span.len ≤ ram_size) }
 {
     if option == "--dump" {
-        read_span(word)
+        span_of(word)
     } else {
         None
     }
@@ -128,8 +128,8 @@ fn order<'a>(
     ensures value { option_map order_in result ≡ order_by verb.now image.now option.now digits.now dump }
     ensures bounded { IfSome result IsBounded }
 {
-    if verb == "run" && can_name(image) && option == "--cycles" {
-        match number(digits, MOST_CYCLES) {
+    if verb == "run" && is_name(image) && option == "--cycles" {
+        match number_up_to(MOST_CYCLES, digits) {
             Some(cycles) => Some(Command::Run(RunCommand {
                 image,
                 cycles,
@@ -147,9 +147,9 @@ fn file_order<'a>(verb: &str, name: &'a str) -> Option<Command<'a>>
     ensures value { option_map order_in result ≡ file_by verb.now name.now }
     ensures bounded { IfSome result IsBounded }
 {
-    if verb == "asm" && can_name(name) {
+    if verb == "asm" && is_name(name) {
         Some(Command::Assemble { source: name })
-    } else if verb == "dis" && can_name(name) {
+    } else if verb == "dis" && is_name(name) {
         Some(Command::Disassemble { image: name })
     } else {
         None
@@ -172,7 +172,7 @@ pub fn read_words(words: &[String]) -> Option<Command<'_>>
             None,
         ),
         [verb, image, option, digits, second, word] => {
-            match read_dump(second.as_str(), word.as_str()) {
+            match dump_by(second.as_str(), word.as_str()) {
                 Some(span) => order(
                     verb.as_str(),
                     image.as_str(),

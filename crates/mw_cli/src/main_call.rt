@@ -20,7 +20,7 @@ use mw_io::{Host, Sink};
 use std::alloc::Global;
 
 /// The status of a refusal.
-fn status_for(refusal: Refusal<'_>) -> Status
+fn status_of(refusal: Refusal<'_>) -> Status
     ensures { result ≡ status_of refusal.entry }
 {
     match refusal {
@@ -112,7 +112,7 @@ fn obey<H: Host, O: Sink, E: Sink>(
         Ok(()) => Status::Done,
         Err(refusal) => {
             report(err, refusal);
-            status_for(refusal)
+            status_of(refusal)
         }
     }
 }

@@ -14,7 +14,7 @@ use crate::unavailable::{without_row, without_row_prefixed};
 use crate::word::opcode_of;
 use arrayvec::ArrayVec;
 use mw_prefix::{Wide, split};
-use mw_tables::{Field, PrefixKind, Row, fields_of_layout, layout_at, read_operand, row_at, rows};
+use mw_tables::{Field, PrefixKind, Row, fields_of, layout_at, operand_in, row_at, rows};
 
 /// Whether `word` is a prefix, which has a suffix behind it (Book I, instruction formats).
 pub fn is_prefix(word: u32) -> bool
@@ -24,7 +24,7 @@ pub fn is_prefix(word: u32) -> bool
 }
 
 /// Whether the word, or the suffix behind this kind of prefix, has the row's fixed bits.
-fn is_of_row(row: &Row, kind: PrefixKind, word: u32) -> bool
+fn matches(row: &Row, kind: PrefixKind, word: u32) -> bool
     ensures { result ≡ matches kind word (row_of row.now) }
 {
     row.prefix == kind && word & row.mask == row.value
@@ -34,7 +34,7 @@ fn is_of_row(row: &Row, kind: PrefixKind, word: u32) -> bool
 fn is_at(kind: PrefixKind, word: u32, place: usize) -> bool
     ensures { IsTrue result ↔ MatchesAt table kind word place }
 {
-    place < rows().len() && is_of_row(&rows()[place], kind, word)
+    place < rows().len() && matches(&rows()[place], kind, word)
 }
 
 /// The place in the table of the row that matches a word, or the suffix behind this kind of prefix.
@@ -81,7 +81,7 @@ fn operands_in(code: u64, fields: &[Field]) -> ArrayVec<i64, 6>
 {
     let mut found = ArrayVec::new();
     for field in fields {
-        found.push(read_operand(code, field));
+        found.push(operand_in(code, field));
     }
     found
 }
@@ -91,7 +91,7 @@ fn insn_at(code: u64, place: u16) -> Option<Insn>
     requires { place < row_count }
     ensures { result ≡ insn_at code (Some place) }
 {
-    let ops = operands_in(code, fields_of_layout(layout_at(place)));
+    let ops = operands_in(code, fields_of(layout_at(place)));
     if is_illegal_form(place, ops.as_slice()) {
         return None;
     }

@@ -8,9 +8,7 @@ ghost use Rattle.mw_decode.specs.Decode.{IsInsn, decode_of, is_prefix};
 ghost use Rattle.mw_decode.specs.Encode.{HasNoReserved, encode_of, flag_operand, flag_operands, words_of};
 
 use crate::insn::{Code, Insn};
-use mw_tables::{
-    Field, PrefixKind, Row, fields_of_layout, flags_of_row, layout_at, row_at, write_operand,
-};
+use mw_tables::{Field, PrefixKind, Row, code_with, fields_of, flags_of, layout_at, row_at};
 
 /// The bits that a prefix of this kind fixes, and 0 without one (Book I, prefixed instruction formats).
 fn prefix_value(kind: PrefixKind) -> u32
@@ -58,7 +56,7 @@ fn code_with_all(fields: &[Field], operands: &[i64]) -> u64
 {
     let mut code = 0;
     for (place, field) in fields.iter().enumerate() {
-        code |= write_operand(operands[place], field);
+        code |= code_with(operands[place], field);
     }
     code
 }
@@ -92,7 +90,7 @@ pub fn encode(insn: &Insn) -> Code
     ensures reserved { HasNoReserved insn.now result }
 {
     let row = row_at(insn.row);
-    let operands = code_with_all(fields_of_layout(layout_at(insn.row)), insn.ops.as_slice());
-    let forms = code_with_all(&flags_of_row(row), &flag_operands(insn));
+    let operands = code_with_all(fields_of(layout_at(insn.row)), insn.ops.as_slice());
+    let forms = code_with_all(&flags_of(row), &flag_operands(insn));
     words_of(row.prefix, fixed_value(row) | (operands | forms))
 }

@@ -6,13 +6,13 @@ ghost use Rattle.mw_decode.specs.Unavailable.{float_codes, float_opcodes, float_
 use crate::insn::{Decoded, Facility};
 use crate::word::{extended_of, opcode_of, ra_of, rb_of};
 use mw_prefix::{Wide, split};
-use mw_tables::{Layout, fields_of_layout, read_operand};
+use mw_tables::{Layout, fields_of, operand_in};
 
 /// The displacement of the format D, in bytes.
 fn displacement(word: u32) -> i64
     ensures { result ≡ operand_in word d }
 {
-    read_operand(u64::from(word), &fields_of_layout(Layout::DRtDRa)[1])
+    operand_in(u64::from(word), &fields_of(Layout::DRtDRa)[1])
 }
 
 /// Floating-point: loads and stores, arithmetic.

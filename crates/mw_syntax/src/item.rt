@@ -104,7 +104,7 @@ static DISPLACED_AND_VALUE: [Item; 8] = [
 static REGISTER_UPPER: [Item; 3] = joined!(Register, Upper);
 
 /// What is written for a list of operands.
-pub fn items_of_shape(shape: Shape) -> &'static [Item]
+pub fn items_of(shape: Shape) -> &'static [Item]
     ensures { result.now ≡ items_of shape }
 {
     match shape {
@@ -147,7 +147,7 @@ pub fn pattern_items(pattern: Pattern, shape: Shape) -> &'static [Item]
     ensures { result.now ≡ pattern_items pattern shape }
 {
     match pattern {
-        Pattern::Row => items_of_shape(shape),
+        Pattern::Row => items_of(shape),
         Pattern::Li => &REGISTER_VALUE,
         Pattern::Lis => &REGISTER_UPPER,
         Pattern::Mr => &TWO_REGISTERS,

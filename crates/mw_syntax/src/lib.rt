@@ -15,9 +15,9 @@ mod values;
 
 pub use expression::{Addend, Base, Expression};
 pub use fault::{LineFault, Refusal, What};
-pub use item::{Item, Kind, items_of_shape, pattern_items};
-pub use line::{parse_line, shape_of_row};
+pub use item::{Item, Kind, items_of, pattern_items};
+pub use line::{parse_line, shape_at};
 pub use mnemonic::{Mnemonic, Pattern};
-pub use spelling::find_mnemonic;
+pub use spelling::mnemonic_of;
 pub use statement::{Label, Line, Statement, Unit};
 pub use values::Values;

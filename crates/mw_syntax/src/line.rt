@@ -15,7 +15,7 @@ use crate::item::pattern_items;
 use crate::mnemonic::Mnemonic;
 use crate::operands::{read_operands, text_of};
 use crate::reading::{column_at, expression_at, kind_at};
-use crate::spelling::find_mnemonic;
+use crate::spelling::mnemonic_of;
 use crate::statement::{Label, Line, Statement, Unit};
 use mw_tables::{Shape, rows};
 use mw_text::{Token, TokenKind, read_line};
@@ -87,7 +87,7 @@ fn read_data(
 }
 
 /// The list of operands of the row at a place of the table, or the empty one where there is no such row.
-pub fn shape_of_row(place: u16) -> Shape
+pub fn shape_at(place: u16) -> Shape
     ensures { result ≡ shape_at place }
 {
     match rows().get(usize::from(place)) {
@@ -109,7 +109,7 @@ fn read_instruction(
     requires inside { place ≤ length tokens.now }
     ensures { IsReadAs result (instruction_by line.now tokens.now name place (Some mnemonic)) }
 {
-    let items = pattern_items(mnemonic.pattern, shape_of_row(mnemonic.row));
+    let items = pattern_items(mnemonic.pattern, shape_at(mnemonic.row));
     match read_operands(items, line, tokens, place) {
         Ok(operands) => Ok(Statement::Instruction {
             name,
@@ -140,7 +140,7 @@ fn read_named(
     if let Some(unit) = unit_of(text) {
         return read_data(alloc, line, tokens, name, unit, place);
     }
-    match find_mnemonic(text) {
+    match mnemonic_of(text) {
         Some(mnemonic) => read_instruction(line, tokens, name, mnemonic, place),
         None => Err(LineFault::Refused(Refusal {
             column: name,

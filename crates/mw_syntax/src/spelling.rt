@@ -394,7 +394,7 @@ fn all_spelled() -> &'static [Spelled]
 }
 
 /// What a name means, if it is a mnemonic. Names are in lower case, and no two mnemonics have one.
-pub fn find_mnemonic(name: &[u8]) -> Option<Mnemonic>
+pub fn mnemonic_of(name: &[u8]) -> Option<Mnemonic>
     ensures value { result ≡ mnemonic_of name.now }
     ensures distinct { AreDistinct }
 {

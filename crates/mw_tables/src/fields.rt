@@ -220,7 +220,7 @@ static MLS_RT_RA_SI_R: [Field; 4] = [RT, RA, D_WIDE, R_WIDE];
 static WIDE_RT_D_RA_R: [Field; 4] = [RT, D_WIDE, RA, R_WIDE];
 
 /// Where the operands stand in a layout, in their order. There are at most six.
-pub fn fields_of_layout(layout: Layout) -> &'static [Field]
+pub fn fields_of(layout: Layout) -> &'static [Field]
     ensures value { result.now ≡ fields_of layout }
     ensures readable { IsTrue (list_all is_readable result.now) }
     ensures few { length result.now ≤ 6 }
@@ -286,7 +286,7 @@ fn flag(exists: bool, field: Field) -> Field
 
 /// Where the forms of a row stand: OE, Rc, AA and LK, each a field of one bit, or of none where the row
 /// lacks that form.
-pub fn flags_of_row(row: &Row) -> [Field; 4]
+pub fn flags_of(row: &Row) -> [Field; 4]
     ensures value { result ≡ flags_of (row_of row.now) }
     ensures readable { IsTrue (list_all is_readable result) }
 {

@@ -7,8 +7,8 @@ mod operand;
 mod row;
 mod table;
 
-pub use fields::{fields_of_layout, flags_of_row};
+pub use fields::{fields_of, flags_of};
 pub use layout::{Field, Layout, Piece};
-pub use operand::{is_in_field, read_operand, write_operand};
+pub use operand::{code_with, is_in_field, operand_in};
 pub use row::{PrefixKind, Row, Shape};
 pub use table::{by_name, layout_at, row_at, rows};

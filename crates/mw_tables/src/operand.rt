@@ -97,7 +97,7 @@ fn bits_from(operand: i64, field: &Field) -> u64
 }
 
 /// The operand that `code` has in a field: a word, or a prefix times 2^32 and a suffix.
-pub fn read_operand(code: u64, field: &Field) -> i64
+pub fn operand_in(code: u64, field: &Field) -> i64
     requires { IsTrue (is_readable field.now) }
     ensures { result ≡ operand_in code field.now }
 {
@@ -106,7 +106,7 @@ pub fn read_operand(code: u64, field: &Field) -> i64
 
 /// A code that has the operand in a field, and 0 elsewhere. Of an operand that is out of range it has
 /// the low bits.
-pub fn write_operand(operand: i64, field: &Field) -> u64
+pub fn code_with(operand: i64, field: &Field) -> u64
     requires { IsTrue (is_readable field.now) }
     ensures { result ≡ code_with field.now operand }
 {

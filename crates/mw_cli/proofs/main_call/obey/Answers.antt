@@ -13,4 +13,4 @@ returns-in-Err-clause-says g c =
       out = change (g.O.Sink.state c.args.out.now) (g.O.Sink.state c.fulfil.new.out);
       err = change (g.E.Sink.state c.args.err.now) (g.E.Sink.state c.report.new.err);
     } in
-    subst (Says call) (sym c.status_for.ensures) (says-refused call (order_in c.in-Some.command) c.in-Err.refusal (sym c.in-Some.ensures.value) c.in-Err.ensures.refused c.report.ensures.took)
+    subst (Says call) (sym c.status_of.ensures) (says-refused call (order_in c.in-Some.command) c.in-Err.refusal (sym c.in-Some.ensures.value) c.in-Err.ensures.refused c.report.ensures.took)

@@ -8,7 +8,7 @@ loop-place-preserved c =
     let fs = c.args.fields.now in
     let zs = c.args.operands.now in
     let place = c.loop-place.place in
-    let here : c.write_operand-code.result ≡ code_with (get_or fs place blank) (get_or zs place (pos 0)) = search rules in
+    let here : c.code_with-code.result ≡ code_with (get_or fs place blank) (get_or zs place (pos 0)) = search rules in
     ap (λ n. bit_or (bit_or c.loop-place.code n) (code_with_all (drop (place + 1) fs) (drop (place + 1) zs))) here
     ∙ code_with_all-next c.loop-place.code fs zs place (omega arith) (omega arith)
     ∙ c.loop-place.invariant

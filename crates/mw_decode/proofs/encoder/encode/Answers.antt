@@ -23,7 +23,7 @@ code_with_all-operands-requires-clause-each c =
     let insn = c.args.insn.now in
     ap length c.as_slice.ensures.value
     ∙ HasOperands-length _ _ (IsInsn-operands insn insn.row c.layout_at.result c.requires refl c.layout_at.ensures)
-    ∙ ap length (sym c.fields_of_layout.ensures.value)
+    ∙ ap length (sym c.fields_of.ensures.value)
 
 -- what is written is the code of the row
 written_code : (c : goal.After-fixed_value) → bit_or c.fixed_value.result (bit_or c.code_with_all-operands.result c.code_with_all-forms.result) ≡ code_of (row_of c.row_at-row.result.now) c.layout_at.result (all_operands c.args.insn.now)
@@ -31,9 +31,9 @@ written_code c =
     let insn = c.args.insn.now in
     let row = row_of c.row_at-row.result.now in
     let layout = c.layout_at.result in
-    code_of-written insn row layout c.fields_of_layout.result.now c.flags_of_row.result c.as_slice.result.now c.flag_operands.result c.fixed_value.result c.code_with_all-operands.result c.code_with_all-forms.result
+    code_of-written insn row layout c.fields_of.result.now c.flags_of.result c.as_slice.result.now c.flag_operands.result c.fixed_value.result c.code_with_all-operands.result c.code_with_all-forms.result
     (IsInsn-at insn row layout c.requires c.row_at-row.ensures c.layout_at.ensures)
-    c.fixed_value.ensures c.code_with_all-operands.ensures c.code_with_all-forms.ensures c.fields_of_layout.ensures.value c.flags_of_row.ensures.value c.as_slice.ensures.value c.flag_operands.ensures
+    c.fixed_value.ensures c.code_with_all-operands.ensures c.code_with_all-forms.ensures c.fields_of.ensures.value c.flags_of.ensures.value c.as_slice.ensures.value c.flag_operands.ensures
 
 pub words_of-requires : goal.words_of-requires
 words_of-requires c =

@@ -1,6 +1,6 @@
 use Rattle.std.proofs.Common.{sym, arith}
 use Rattle.mw_cli.proofs.CommandLemmas.{number-is, number-unread, number-other, number-great}
-use Rattle.mw_cli.proofs.command.number.Goals as goal
+use Rattle.mw_cli.proofs.command.number_up_to.Goals as goal
 
 pub returns-in_default-clause-value : goal.returns-in_default-clause-value
 returns-in_default-clause-value c = sym (number-unread c.args.most c.args.word.now c.parse.result c.in_default.field-0 (omega arith) c.parse.ensures.value.0 c.in_default.is)

@@ -1,7 +1,7 @@
 use Rattle.std.proofs.Common.{rules}
 use Rattle.std.proofs.lemmas.Fn.{always_returns_same}
 use Rattle.mw_syntax.proofs.IndexLemmas.{compared, searched_found, searched_none}
-use Rattle.mw_syntax.proofs.spelling.find_mnemonic.Goals as goal
+use Rattle.mw_syntax.proofs.spelling.mnemonic_of.Goals as goal
 
 -- the closure compares an entry's name with the name
 pub returns-in-Ok-clause-value : goal.returns-in-Ok-clause-value
