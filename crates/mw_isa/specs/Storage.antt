@@ -42,6 +42,20 @@ abbrev pub OnMemory : (MemOp → Type 0) → Outcome → Type 0
 OnMemory P (Done targets next) = Unit {0}
 OnMemory P (Memory op) = P op
 
+-- the address is a multiple of the length
+abbrev pub is_aligned : MemOp → Bool
+is_aligned op = op.ea % op.len == 0
+
+-- the access reserves its block, or stores where it is reserved
+abbrev pub is_exclusive : MemWhat → Bool
+is_exclusive (Load signed reversed reserve) = reserve
+is_exclusive (Conditional reversed) = true
+is_exclusive what = false
+
+-- an access that raises an alignment interrupt before it is translated: an exclusive one that isn't aligned
+abbrev pub is_unaligned_exclusive : MemOp → Bool
+is_unaligned_exclusive op = is_exclusive op.what && not (is_aligned op)
+
 -- the effective address of the first byte: that of the aligned block for zeros
 abbrev pub first_of : MemOp → MemWhat → ℕ
 first_of op Zero = op.ea - op.ea % 64
@@ -62,26 +76,13 @@ kind_of what = Stores
 abbrev pub pages_of : MemOp → Pages
 pages_of op = pages_from (kind_of op.what) (first_byte op) op.len
 
--- the address is a multiple of the length
-abbrev pub is_aligned : MemOp → Bool
-is_aligned op = op.ea % op.len == 0
-
--- the access reserves its block, or stores where it is reserved
-abbrev pub is_exclusive : MemWhat → Bool
-is_exclusive (Load signed reversed reserve) = reserve
-is_exclusive (Conditional reversed) = true
-is_exclusive what = false
-
 -- outside RAM the access isn't allowed
 abbrev pub needs_ram : MemWhat → Bool
 needs_ram Zero = true
 needs_ram what = is_exclusive what
 
--- an access that raises an alignment interrupt before it is translated: an exclusive one that isn't aligned
-abbrev pub is_unaligned_exclusive : MemOp → Bool
-is_unaligned_exclusive op = is_exclusive op.what && not (is_aligned op)
-
--- one that raises an alignment interrupt once it is translated: it has a byte outside RAM, and isn't aligned or needs RAM
+-- an access that raises an alignment interrupt once it is translated: it has a byte outside RAM, and isn't aligned or needs
+-- RAM
 abbrev pub is_misplaced : MemOp → Stretches → Bool
 is_misplaced op at = not (is_in_ram at) && (not (is_aligned op) || needs_ram op.what)
 
