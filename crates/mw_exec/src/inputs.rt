@@ -2,7 +2,7 @@ ghost use Rattle.std.specs.Prelude.{◌≡◌};
 ghost use Rattle.mw_isa.specs.Execute.{a_of, b_of, is_operand};
 
 use mw_decode::Insn;
-use mw_isa::{Operands, Places, operand};
+use mw_isa::{Operands, Places, operand_of};
 
 /// Whether the operand at a place, if there is one, is this number.
 fn is_operand(insn: &Insn, place: Option<u8>, number: u64) -> bool
@@ -10,7 +10,7 @@ fn is_operand(insn: &Insn, place: Option<u8>, number: u64) -> bool
 {
     match place {
         None => false,
-        Some(at) => operand(insn, at) == number,
+        Some(at) => operand_of(insn, at) == number,
     }
 }
 
@@ -34,6 +34,6 @@ pub fn b_of(places: Places, insn: &Insn, operands: &Operands) -> u64
 {
     match places.number {
         None => operands.b,
-        Some(at) => operand(insn, at),
+        Some(at) => operand_of(insn, at),
     }
 }

@@ -229,10 +229,6 @@ stepped_by it trap state = record {
 abbrev pub stepped : UnderWay → State → Stepped
 stepped it state = stepped_by it (raises_of it (get_slot state.regs) state.regs.msr) state
 
--- an instruction at an address, from its fetch and its words
-abbrev pub step_of : Result ℕ StorageFault → Option Fetched → ℕ → State → Stepped
-step_of real words at state = stepped (under_way_of real words at state.regs) state
-
 -- the next instruction
 unfoldable pub step : State → Stepped
 step state = stepped (under_way state) state

@@ -33,7 +33,7 @@ pub use operation::{
 pub use outcome::{Operands, Outcome, Target};
 pub use pages::{Page, PageFault, Pages, StorageFault, Stretch, Stretches};
 pub use place::Places;
-pub use placing::{operand, places_of, register};
+pub use placing::{operand_of, places_of, register};
 pub use reading::{SlotView, loaded_of, operands, reads, targets, updated_of};
 pub use real::{fetch_at, real_at};
 pub use regs::Regs;

@@ -138,7 +138,7 @@ pub fn places_of(operation: Operation) -> Places
 
 /// The operand at a place, counted from 0: a register's number, or a number in 64 bits, where a signed one
 /// is extended; 0 where the instruction has fewer operands.
-pub fn operand(insn: &Insn, place: u8) -> u64
+pub fn operand_of(insn: &Insn, place: u8) -> u64
     ensures { result ≡ operand_of insn.now place }
 {
     let place = usize::from(place);
@@ -155,5 +155,5 @@ pub fn register(insn: &Insn, place: u8) -> u8
     ensures value { result ≡ operand_of insn.now place }
     ensures bound { result < 32 }
 {
-    operand(insn, place) as u8
+    operand_of(insn, place) as u8
 }

@@ -11,7 +11,7 @@ use crate::memory::MemWhat;
 use crate::operation::{Ending, Operation, StorageRow, operation_at};
 use crate::outcome::Operands;
 use crate::place::Places;
-use crate::placing::{operand, places_of, register};
+use crate::placing::{operand_of, places_of, register};
 use crate::regs::Regs;
 use crate::slot::Slot;
 use crate::slot_set::SlotSet;
@@ -58,7 +58,7 @@ fn base_at(insn: &Insn, place: Option<u8>) -> Option<Slot>
     match place {
         None => None,
         Some(at) => {
-            if operand(insn, at) == 0 {
+            if operand_of(insn, at) == 0 {
                 None
             } else {
                 Some(Slot::Gpr(register(insn, at)))
