@@ -17,7 +17,7 @@ use mw_soc::Devices;
 use std::alloc::Global;
 
 /// The run that reached its number of cycles with these events and this state, whose devices are brought to it.
-fn ended(events: Events, mut state: State, n: u64) -> Run
+fn stopped(events: Events, mut state: State, n: u64) -> Run
     requires later { cycle_of state.devices.devices ≤ n }
     requires room { n / 160 ≤ state.devices.room }
     ensures events { result.events ≡ events }
@@ -66,5 +66,5 @@ pub fn simulate(alloc: Global, image: &[u8], n: u64) -> Result<Run, RunFault>
             return Err(RunFault::NoMemory);
         };
     }
-    Ok(ended(events, state, n))
+    Ok(stopped(events, state, n))
 }

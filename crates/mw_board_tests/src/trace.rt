@@ -194,11 +194,7 @@ m 0000000000fffffe 0000
 fn start(alloc: Global, image: &[u8]) -> Result<State, NoMemory>
     requires { length image.now ≤ 16777216 }
 {
-    Ok(State {
-        regs: Regs::new(),
-        ram: Ram::new(alloc, image)?,
-        devices: Devices::new(alloc, ROOM)?,
-    })
+    Ok(State::new(Ram::new(alloc, image)?, Devices::new(alloc, ROOM)?))
 }
 
 /// Brings the devices to a cycle.
@@ -230,6 +226,7 @@ fn stretch(rt: &impl Abort, at: u32, len: u32) -> Span
 #[test]
 fn prints_the_start(rt: HostRuntime) -> Result<(), Fail> {
     let state = start(rt.alloc(), &[])?;
+    assert_eq!(rt; state.cia(), 0);
     let text = print(rt.alloc(), &[], &End::Ran { cycle: 0 }, &state, None)?;
     assert!(rt; text.as_slice() == START.as_bytes());
     Ok(())
@@ -313,11 +310,10 @@ fn prints_each_register(rt: HostRuntime) -> Result<(), Fail> {
 #[test]
 fn prints_what_the_uart_sent(rt: HostRuntime) -> Result<(), Fail> {
     for Sent(bytes, cycle, last) in &SENT {
-        let state = State {
-            regs: Regs::new(),
-            ram: Ram::new(rt.alloc(), &[])?,
-            devices: given(&rt, rt.alloc(), bytes, *cycle)?,
-        };
+        let state = State::new(
+            Ram::new(rt.alloc(), &[])?,
+            given(&rt, rt.alloc(), bytes, *cycle)?,
+        );
         let text = print(rt.alloc(), &[], &End::Ran { cycle: *cycle }, &state, None)?;
         assert!(rt; text.as_slice().ends_with(last.as_bytes()), "at {cycle}");
     }

@@ -21,4 +21,4 @@ loop-cycle-preserved c = (
 
 pub returns-clause-runs : goal.returns-clause-runs
 returns-clause-runs c =
-    made-end (boot_of c.args.image.now) c.args.n c.loop-cycle.events c.ended.result.events c.loop-cycle.cycle c.ended.result.end (seen c.loop-cycle.state) (seen c.ended.result.state) c.loop-cycle.invariant.0 (omega arith) (omega arith) c.ended.ensures.events c.ended.ensures.end c.ended.ensures.last
+    made-end (boot_of c.args.image.now) c.args.n c.loop-cycle.events c.stopped.result.events c.loop-cycle.cycle c.stopped.result.end (seen c.loop-cycle.state) (seen c.stopped.result.state) c.loop-cycle.invariant.0 (omega arith) (omega arith) c.stopped.ensures.events c.stopped.ensures.end c.stopped.ensures.last
