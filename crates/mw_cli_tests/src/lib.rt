@@ -1,15 +1,11 @@
-//! The tests of the command line, over its one call.
+//! The tests of the command line's words, refusals and files, over its public calls.
 #![tactic(auto)]
 
-#[cfg(test)]
-mod dumps;
 #[cfg(test)]
 mod faults;
 #[cfg(test)]
 mod files;
 #[cfg(test)]
 mod refusals;
-#[cfg(test)]
-mod runs;
 #[cfg(test)]
 mod shared;

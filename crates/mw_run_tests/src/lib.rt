@@ -1,0 +1,11 @@
+//! The tests of runs and dumps from the command line, over its one call.
+#![tactic(auto)]
+
+#[cfg(test)]
+mod dumps;
+#[cfg(test)]
+mod faults;
+#[cfg(test)]
+mod runs;
+#[cfg(test)]
+mod shared;
