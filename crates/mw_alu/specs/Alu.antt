@@ -45,9 +45,9 @@ alu_of Subfc a b c carry = sum_of (bit_not w64 a) b 1
 alu_of Adde a b c carry = sum_of a b (from_bool carry)
 -- RT ← ¬(RA) + (RB) + CA
 alu_of Subfe a b c carry = sum_of (bit_not w64 a) b (from_bool carry)
--- RT ← (RA) + CA + 64 ones
+-- RT ← (RA) + CA - 1, with -1 as 64 ones
 alu_of Addme a b c carry = sum_of a (2 ^ 64 - 1) (from_bool carry)
--- RT ← ¬(RA) + CA + 64 ones
+-- RT ← ¬(RA) + CA - 1, with -1 as 64 ones
 alu_of Subfme a b c carry = sum_of (bit_not w64 a) (2 ^ 64 - 1) (from_bool carry)
 -- RT ← (RA) + CA
 alu_of Addze a b c carry = sum_of a 0 (from_bool carry)
