@@ -1,5 +1,5 @@
 ghost use Rattle.std.specs.Prelude.{◌≡◌, ◌+◌, ◌++◌, ◌<◌, ◌≤◌, IfSome, length};
-ghost use Rattle.mw_isa.specs.Execute.{ended, ended_with, field_target, result_at, xer_target};
+ghost use Rattle.mw_isa.specs.Execute.{ended, field_target, result_at, xer_target};
 ghost use Rattle.mw_isa.specs.Places.{HasRegisters, IsRegister};
 ghost use Rattle.mw_isa.specs.Reads.{register_at};
 ghost use Rattle.mw_isa.specs.Xer.{bits_after, result_field, sign_field, with_carries, with_overflows, with_summary};
@@ -125,25 +125,8 @@ fn push_field(targets: &mut ArrayVec<Target, 8>, written: bool, value: u64, so: 
     }
 }
 
-/// What is written at the end of an arithmetic row, in order, with the bits of XER as they stand after the
-/// instruction.
-fn ended_with(
-    ending: Ending,
-    places: Places,
-    insn: &Insn,
-    out: AluOut,
-    bits: XerBits,
-) -> ArrayVec<Target, 8>
-    requires { HasRegisters insn.now places }
-    ensures { result.items ≡ ended_with ending places insn.now out bits }
-{
-    let mut targets = result_at(places.written, insn, out.value);
-    push_xer(&mut targets, writes_xer(ending, insn), bits);
-    push_field(&mut targets, writes_field(ending, insn), out.value, bits.so);
-    targets
-}
-
-/// The same from XER as it is before.
+/// What is written at the end of an arithmetic row, in order: the result, XER and CR field 0, with the bits
+/// of XER as they stand after the instruction.
 pub fn ended(
     ending: Ending,
     places: Places,
@@ -154,6 +137,15 @@ pub fn ended(
     requires { HasRegisters insn.now places }
     ensures { result.items ≡ ended ending places insn.now out xer }
 {
-    let bits = bits_after(ending, insn, out, xer_bits(xer));
-    ended_with(ending, places, insn, out, bits)
+    let before = xer_bits(xer);
+    let after = bits_after(ending, insn, out, before);
+    let mut targets = result_at(places.written, insn, out.value);
+    push_xer(&mut targets, writes_xer(ending, insn), after);
+    push_field(
+        &mut targets,
+        writes_field(ending, insn),
+        out.value,
+        after.so,
+    );
+    targets
 }
