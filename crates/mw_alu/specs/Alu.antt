@@ -1,49 +1,127 @@
--- What the rows that are done in one cycle give, over whole numbers (Book I, fixed-point arithmetic and logical
--- instructions). In a row's line a is the content of RA or RS, of (RA|0), or an address; b is the content of RB or the
--- number among the operands; c and the carry stand for what no row here takes.
-use Rattle.std.specs.Prelude.{ℕ, ◌+◌, ◌-◌, ◌*◌, ◌%◌, ◌^◌, Bool, false, not, ◌&&◌, nat_le, int_le, ℤ, pos, negsuc, ◌+ℤ◌, bit_or}
-use Rattle.std.specs.Int.{w32, w64, cast_signed}
+-- What the rows that are done in one cycle give, over whole numbers (Book I, fixed-point arithmetic, logical, rotate and
+-- shift instructions). In a row's line a is the content of RA or RS, of (RA|0), or an address, CIA or NIA; b is the
+-- content of RB, the number among the operands in 64 bits, or the count of a rotation; c is the mask of a rotation, or
+-- the number of places of srawi, sradi and extswsli. rlwimi and rldimi have four numbers: a is rotated already, b is the
+-- mask and c the old content of RA. The carry is CA, and OV of addex. A sum has all four flags, whichever of them its
+-- row writes, but for addex; a signed shift to the right has CA and CA32; all other flags are false.
+use Rattle.std.specs.Prelude.{ℕ, ◌-◌, ◌*◌, ◌/◌, ◌%◌, ◌^◌, Bool, bit_and, bit_or, bit_xor}
+use Rattle.std.specs.Int.{w64, bit_not, from_bool}
+use Rattle.mw_bits.specs.Fields.{rotl_of, sext_of}
 use Rattle.mw_alu.specs.declared.op.AluOp.{AluOp}
-use Rattle.mw_alu.specs.declared.op.AluOp.TheVariants.{Addi, Addis, Ori, Add, Paddi}
+use Rattle.mw_alu.specs.declared.op.AluOp.TheVariants.{Addi, Addis, Addic, Subfic, Addpcis, Paddi, Add, Subf, Neg, Addc, Subfc, Adde, Subfe, Addme, Subfme, Addze, Subfze, Addex, Ori, Oris, Xori, Xoris, Andi, Andis, And, Andc, Or, Orc, Xor, Eqv, Nand, Nor, Rlwinm, Rlwnm, Rlwimi, Rldicl, Rldicr, Rldic, Rldimi, Rldcl, Rldcr, Slw, Srw, Sld, Srd, Sraw, Srawi, Srad, Sradi, Extswsli, Extsb, Extsh, Extsw}
 use Rattle.mw_alu.specs.declared.op.AluOut.{AluOut}
+use Rattle.mw_alu.specs.Sums.{sum_of, sum_by_ov}
+use Rattle.mw_alu.specs.Bits.{valued, rotl32_of, inserted_of, signed_right, signed_right_word}
 
--- a result without carry or overflow
-abbrev pub valued : ℕ → AluOut
-valued value = record { value = value; ca = false; ca32 = false; ov = false; ov32 = false }
-
--- the carry out of 64 bits of a sum of three numbers (CA)
-abbrev pub carries : ℕ → ℕ → ℕ → Bool
-carries x y k = nat_le (2 ^ 64) (x + y + k)
-
--- the carry out of 32 bits of the sum of their low words (CA32)
-abbrev pub carries_word : ℕ → ℕ → ℕ → Bool
-carries_word x y k = nat_le (2 ^ 32) (x % 2 ^ 32 + y % 2 ^ 32 + k)
-
--- a signed number doesn't lie between these two
-abbrev pub is_outside : ℤ → ℤ → ℤ → Bool
-is_outside low high z = not (int_le low z && int_le z high)
-
--- the sum of the signed numbers doesn't fit 64 bits (OV)
-abbrev pub overflows : ℕ → ℕ → ℕ → Bool
-overflows x y k = is_outside (negsuc 0x7FFF_FFFF_FFFF_FFFF) (pos 0x7FFF_FFFF_FFFF_FFFF) (cast_signed w64 x +ℤ cast_signed w64 y +ℤ pos k)
-
--- the sum of the signed low words doesn't fit 32 bits (OV32)
-abbrev pub overflows_word : ℕ → ℕ → ℕ → Bool
-overflows_word x y k = is_outside (negsuc 0x7FFF_FFFF) (pos 0x7FFF_FFFF) (cast_signed w32 (x % 2 ^ 32) +ℤ cast_signed w32 (y % 2 ^ 32) +ℤ pos k)
-
--- a sum of three numbers in 64 bits, with its carries and overflows
-abbrev pub sum_of : ℕ → ℕ → ℕ → AluOut
-sum_of x y k = record { value = (x + y + k) % 2 ^ 64; ca = carries x y k; ca32 = carries_word x y k; ov = overflows x y k; ov32 = overflows_word x y k }
+-- a number with 16 zeros behind it
+abbrev pub shifted_number : ℕ → ℕ
+shifted_number n = n * 2 ^ 16 % 2 ^ 64
 
 -- what a row gives
 abbrev pub alu_of : AluOp → ℕ → ℕ → ℕ → Bool → AluOut
--- a + EXTS(SI)
+-- RT ← (RA|0) + EXTS(SI)
 alu_of Addi a b c carry = sum_of a b 0
--- a + EXTS(SI || 16 zeros)
-alu_of Addis a b c carry = sum_of a (b * 2 ^ 16 % 2 ^ 64) 0
--- a | UI
-alu_of Ori a b c carry = valued (bit_or a b)
--- a + b
-alu_of Add a b c carry = sum_of a b 0
--- a + EXTS(SI), of 34 bits
+-- RT ← (RA|0) + EXTS(SI || 16 zeros)
+alu_of Addis a b c carry = sum_of a (shifted_number b) 0
+-- RT ← (RA) + EXTS(SI)
+alu_of Addic a b c carry = sum_of a b 0
+-- RT ← ¬(RA) + EXTS(SI) + 1
+alu_of Subfic a b c carry = sum_of (bit_not w64 a) b 1
+-- RT ← NIA + EXTS(D || 16 zeros)
+alu_of Addpcis a b c carry = sum_of a (shifted_number b) 0
+-- RT ← (RA|0) + EXTS(SI), or CIA + EXTS(SI), of 34 bits
 alu_of Paddi a b c carry = sum_of a b 0
+-- RT ← (RA) + (RB)
+alu_of Add a b c carry = sum_of a b 0
+-- RT ← ¬(RA) + (RB) + 1
+alu_of Subf a b c carry = sum_of (bit_not w64 a) b 1
+-- RT ← ¬(RA) + 1
+alu_of Neg a b c carry = sum_of (bit_not w64 a) 0 1
+-- RT ← (RA) + (RB)
+alu_of Addc a b c carry = sum_of a b 0
+-- RT ← ¬(RA) + (RB) + 1
+alu_of Subfc a b c carry = sum_of (bit_not w64 a) b 1
+-- RT ← (RA) + (RB) + CA
+alu_of Adde a b c carry = sum_of a b (from_bool carry)
+-- RT ← ¬(RA) + (RB) + CA
+alu_of Subfe a b c carry = sum_of (bit_not w64 a) b (from_bool carry)
+-- RT ← (RA) + CA - 1, with -1 as 64 ones
+alu_of Addme a b c carry = sum_of a (2 ^ 64 - 1) (from_bool carry)
+-- RT ← ¬(RA) + CA - 1, with -1 as 64 ones
+alu_of Subfme a b c carry = sum_of (bit_not w64 a) (2 ^ 64 - 1) (from_bool carry)
+-- RT ← (RA) + CA
+alu_of Addze a b c carry = sum_of a 0 (from_bool carry)
+-- RT ← ¬(RA) + CA
+alu_of Subfze a b c carry = sum_of (bit_not w64 a) 0 (from_bool carry)
+-- RT ← (RA) + (RB) + OV; OV and OV32 are the carries
+alu_of Addex a b c carry = sum_by_ov a b (from_bool carry)
+-- RA ← (RS) | UI
+alu_of Ori a b c carry = valued (bit_or a b)
+-- RA ← (RS) | (UI || 16 zeros)
+alu_of Oris a b c carry = valued (bit_or a (shifted_number b))
+-- RA ← (RS) ⊕ UI
+alu_of Xori a b c carry = valued (bit_xor a b)
+-- RA ← (RS) ⊕ (UI || 16 zeros)
+alu_of Xoris a b c carry = valued (bit_xor a (shifted_number b))
+-- RA ← (RS) & UI
+alu_of Andi a b c carry = valued (bit_and a b)
+-- RA ← (RS) & (UI || 16 zeros)
+alu_of Andis a b c carry = valued (bit_and a (shifted_number b))
+-- RA ← (RS) & (RB)
+alu_of And a b c carry = valued (bit_and a b)
+-- RA ← (RS) & ¬(RB)
+alu_of Andc a b c carry = valued (bit_and a (bit_not w64 b))
+-- RA ← (RS) | (RB)
+alu_of Or a b c carry = valued (bit_or a b)
+-- RA ← (RS) | ¬(RB)
+alu_of Orc a b c carry = valued (bit_or a (bit_not w64 b))
+-- RA ← (RS) ⊕ (RB)
+alu_of Xor a b c carry = valued (bit_xor a b)
+-- RA ← ¬((RS) ⊕ (RB))
+alu_of Eqv a b c carry = valued (bit_not w64 (bit_xor a b))
+-- RA ← ¬((RS) & (RB))
+alu_of Nand a b c carry = valued (bit_not w64 (bit_and a b))
+-- RA ← ¬((RS) | (RB))
+alu_of Nor a b c carry = valued (bit_not w64 (bit_or a b))
+-- RA ← ROTL32((RS)32:63, SH) & MASK(MB+32, ME+32)
+alu_of Rlwinm a b c carry = valued (bit_and (rotl32_of a (b % 2 ^ 5)) c)
+-- RA ← ROTL32((RS)32:63, (RB)59:63) & MASK(MB+32, ME+32)
+alu_of Rlwnm a b c carry = valued (bit_and (rotl32_of a (b % 2 ^ 5)) c)
+-- RA ← r & m | (RA) & ¬m, where r is ROTL32((RS)32:63, SH) and m is MASK(MB+32, ME+32)
+alu_of Rlwimi a b c carry = valued (inserted_of a b c)
+-- RA ← ROTL64((RS), SH) & MASK(MB, 63)
+alu_of Rldicl a b c carry = valued (bit_and (rotl_of a (b % 2 ^ 6)) c)
+-- RA ← ROTL64((RS), SH) & MASK(0, ME)
+alu_of Rldicr a b c carry = valued (bit_and (rotl_of a (b % 2 ^ 6)) c)
+-- RA ← ROTL64((RS), SH) & MASK(MB, 63-SH)
+alu_of Rldic a b c carry = valued (bit_and (rotl_of a (b % 2 ^ 6)) c)
+-- RA ← r & m | (RA) & ¬m, where r is ROTL64((RS), SH) and m is MASK(MB, 63-SH)
+alu_of Rldimi a b c carry = valued (inserted_of a b c)
+-- RA ← ROTL64((RS), (RB)58:63) & MASK(MB, 63)
+alu_of Rldcl a b c carry = valued (bit_and (rotl_of a (b % 2 ^ 6)) c)
+-- RA ← ROTL64((RS), (RB)58:63) & MASK(0, ME)
+alu_of Rldcr a b c carry = valued (bit_and (rotl_of a (b % 2 ^ 6)) c)
+-- RA ← the word (RS)32:63 shifted left by (RB)58:63 places, 0 from 32 on
+alu_of Slw a b c carry = valued (a % 2 ^ 32 * 2 ^ (b % 2 ^ 6) % 2 ^ 32)
+-- RA ← the word (RS)32:63 shifted right by (RB)58:63 places, 0 from 32 on
+alu_of Srw a b c carry = valued (a % 2 ^ 32 / 2 ^ (b % 2 ^ 6))
+-- RA ← (RS) shifted left by (RB)57:63 places, 0 from 64 on
+alu_of Sld a b c carry = valued (a * 2 ^ (b % 2 ^ 7) % 2 ^ 64)
+-- RA ← (RS) shifted right by (RB)57:63 places, 0 from 64 on
+alu_of Srd a b c carry = valued (a / 2 ^ (b % 2 ^ 7))
+-- RA ← the signed word (RS)32:63 shifted right by (RB)58:63 places; CA and CA32
+alu_of Sraw a b c carry = signed_right_word a (b % 2 ^ 6)
+-- RA ← the signed word (RS)32:63 shifted right by SH places; CA and CA32
+alu_of Srawi a b c carry = signed_right_word a (c % 2 ^ 5)
+-- RA ← the signed (RS) shifted right by (RB)57:63 places; CA and CA32
+alu_of Srad a b c carry = signed_right a (b % 2 ^ 7)
+-- RA ← the signed (RS) shifted right by SH places; CA and CA32
+alu_of Sradi a b c carry = signed_right a (c % 2 ^ 6)
+-- RA ← EXTS((RS)32:63) shifted left by SH places
+alu_of Extswsli a b c carry = valued (sext_of a 32 * 2 ^ (c % 2 ^ 6) % 2 ^ 64)
+-- RA ← EXTS((RS)56:63)
+alu_of Extsb a b c carry = valued (sext_of a 8)
+-- RA ← EXTS((RS)48:63)
+alu_of Extsh a b c carry = valued (sext_of a 16)
+-- RA ← EXTS((RS)32:63)
+alu_of Extsw a b c carry = valued (sext_of a 32)

@@ -1,6 +1,6 @@
 ghost use Rattle.std.specs.Prelude.{◌≡◌};
 ghost use Rattle.std.specs.Int.{from_bool};
-ghost use Rattle.mw_alu.specs.Alu.{carries, carries_word, overflows, overflows_word, sum_of};
+ghost use Rattle.mw_alu.specs.Sums.{carries, carries_word, overflows, overflows_word, sum_by_ov, sum_of};
 
 use crate::op::AluOut;
 
@@ -49,5 +49,18 @@ pub fn sum_of(x: u64, y: u64, more: bool) -> AluOut
         ca32: carries_word(x, y, more),
         ov: overflows(x, y, more),
         ov32: overflows_word(x, y, more),
+    }
+}
+
+/// The same sum where OV is the carry: its carries stand in place of the overflows (addex).
+pub fn sum_by_ov(x: u64, y: u64, more: bool) -> AluOut
+    ensures { result ≡ sum_by_ov x y (from_bool more) }
+{
+    AluOut {
+        value: x.wrapping_add(y).wrapping_add(u64::from(more)),
+        ca: false,
+        ca32: false,
+        ov: carries(x, y, more),
+        ov32: carries_word(x, y, more),
     }
 }

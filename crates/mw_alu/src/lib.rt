@@ -2,8 +2,11 @@
 #![tactic(auto)]
 
 mod adder;
+mod extend;
 mod logic;
 mod op;
+mod rotate;
+mod shift;
 mod unit;
 
 pub use op::{AluOp, AluOut};

@@ -3,7 +3,9 @@
 
 mod arithmetic;
 mod branching;
+mod ending;
 mod inputs;
+mod numbers;
 mod outcome;
 mod storage;
 mod unit;

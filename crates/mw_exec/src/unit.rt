@@ -25,17 +25,17 @@ pub fn is_built_row(insn: &Insn) -> bool
     }
 }
 
-/// Whether an instruction is built: its row is, and OE, Rc and LK are 0.
+/// Whether an instruction is built: its row is, and LK is 0.
 pub fn is_built(insn: &Insn) -> bool
     requires { IsInsn insn.now }
     ensures { result ≡ is_built insn.now }
 {
-    is_built_row(insn) && !insn.oe && !insn.rc && !insn.lk
+    is_built_row(insn) && !insn.lk
 }
 
 /// What an instruction at the effective address `cia` comes to, from the registers that it reads: what
-/// it writes, and the address of the next one (Book I). Its row has to be built. OE, Rc and LK aren't
-/// looked at: the forms that have them are for the caller to refuse.
+/// it writes, and the address of the next one (Book I). Its row has to be built. LK isn't looked at: the
+/// forms that have it are for the caller to refuse.
 #[tactic(auto, unfolding(mw_isa::specs::Execute::exec_of))]
 pub fn exec(insn: &Insn, operands: &Operands, cia: u64) -> Outcome
     requires insn { IsInsn insn.now }

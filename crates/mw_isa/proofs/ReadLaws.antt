@@ -8,7 +8,6 @@ use Rattle.mw_isa.specs.declared.memory.MemWhat.{MemWhat}
 use Rattle.mw_isa.specs.declared.memory.MemWhat.TheVariants.{Load, Store, Conditional, Zero, Clean, Icbi}
 use Rattle.mw_isa.specs.declared.operation.BranchRow.TheVariants.{B}
 use Rattle.mw_isa.specs.declared.operation.Ending.{Ending}
-use Rattle.mw_isa.specs.declared.operation.Ending.TheVariants.{Plain}
 use Rattle.mw_isa.specs.declared.operation.Operation.{Operation}
 use Rattle.mw_isa.specs.declared.operation.Operation.TheVariants.{Alu, Branch, Storage, Hint, Later}
 use Rattle.mw_isa.specs.declared.outcome.Operands.{Operands}
@@ -17,8 +16,11 @@ use Rattle.mw_isa.specs.declared.place.Places.{Places}
 use Rattle.mw_isa.specs.declared.slot.Slot.{Slot}
 use Rattle.mw_isa.specs.declared.slot.Slot.TheVariants.{Gpr, CrField, Xer, Lr, Ctr, Tar}
 use Rattle.mw_isa.specs.declared.sources.Sources.{Sources}
+use Rattle.mw_isa.specs.declared.xer.XerBits.{XerBits}
+use Rattle.mw_isa.specs.Endings.{field_if, writes_field, writes_xer, xer_if}
+use Rattle.mw_isa.specs.Xer.{bits_after, xer_bits}
 use Rattle.mw_isa.specs.Storage.{access_targets, update_targets}
-use Rattle.mw_isa.specs.Execute.{result_at, ended, effect_of, arithmetic_of, branch_of, storage_of, branch_to, behind_insn, exec_of}
+use Rattle.mw_isa.specs.Execute.{result_at, xer_target, field_target, ended, out_of, effect_of, arithmetic_of, branch_of, storage_of, branch_to, behind_insn, exec_of}
 use Rattle.mw_isa.specs.Operations.{operations}
 use Rattle.mw_isa.specs.Places.{places_of}
 use Rattle.mw_isa.specs.Reads.{Agree, fields_of, has_slot, held, no_sources, operands_at, operands_by, operands_in, part_of, read_slots, reads_by, reads_of, slots_in, sources_at, special_reads, register_at}
@@ -32,22 +34,28 @@ bits_of-front None slots = refl
 bits_of-front (Some slot) slots = refl
 
 -- the bits of the registers that are read, from the last to the first
-read_slots-bits : (sources : Sources) → bits_of (read_slots sources []) ≡ bits_with sources.a (bits_with sources.b (bits_with sources.c 0))
-read_slots-bits sources =
-    bits_of-front sources.a (slots_in sources.b ++ (slots_in sources.c ++ []))
-    ∙ ap (bits_with sources.a) (bits_of-front sources.b (slots_in sources.c ++ []) ∙ ap (bits_with sources.b) (bits_of-front sources.c []))
+read_slots-bits : (sources : Sources) (special : List Slot) → bits_of (read_slots sources special) ≡ bits_with sources.a (bits_with sources.b (bits_with sources.c (bits_of special)))
+read_slots-bits sources special =
+    bits_of-front sources.a (slots_in sources.b ++ (slots_in sources.c ++ special))
+    ∙ ap (bits_with sources.a) (bits_of-front sources.b (slots_in sources.c ++ special) ∙ ap (bits_with sources.b) (bits_of-front sources.c special))
+
+-- the bits of one register, if there is one
+slots_in-bits : (slot : Option Slot) → bits_of (slots_in slot) ≡ bits_with slot 0
+slots_in-bits None = refl
+slots_in-bits (Some slot) = refl
 
 -- the registers that are read, once the operation is known
 reads_of-known : (insn : Insn) (operation : Operation) → slice_get operations insn.row ≡ Some operation → reads_of insn ≡ reads_by operation insn
 unfolding reads_of
 reads_of-known insn operation e = ap (λ (o : Option Operation). option_map_or (λ known. reads_by known insn) o []) e
 
--- their bits, once the operation and its sources are known
-pub reads_of-bits : (insn : Insn) (operation : Operation) (sources : Sources) → slice_get operations insn.row ≡ Some operation → sources ≡ sources_at (places_of operation) insn → bits_of (reads_of insn) ≡ bits_with sources.a (bits_with sources.b (bits_with sources.c 0))
-reads_of-bits insn operation sources at are =
+-- their bits, once the operation, its sources and the register that it reads beside them are known
+pub reads_of-bits : (insn : Insn) (operation : Operation) (sources : Sources) (special : Option Slot) → slice_get operations insn.row ≡ Some operation → sources ≡ sources_at (places_of operation) insn → special_reads operation insn ≡ slots_in special → bits_of (reads_of insn) ≡ bits_with sources.a (bits_with sources.b (bits_with sources.c (bits_with special 0)))
+reads_of-bits insn operation sources special at are beside =
     ap bits_of (reads_of-known insn operation at)
-    ∙ read_slots-bits (sources_at (places_of operation) insn)
-    ∙ ap (λ (s : Sources). bits_with s.a (bits_with s.b (bits_with s.c 0))) (sym are)
+    ∙ read_slots-bits (sources_at (places_of operation) insn) (special_reads operation insn)
+    ∙ ap (λ (s : Sources). bits_with s.a (bits_with s.b (bits_with s.c (bits_of (special_reads operation insn))))) (sym are)
+    ∙ ap (λ n. bits_with sources.a (bits_with sources.b (bits_with sources.c n))) (ap bits_of beside ∙ slots_in-bits special)
 
 -- a register of a list on which two views agree
 seen-agree : (view other : Slot → ℕ) (slot first : Slot) (slots : List Slot) (here : Bool) → same_slot first slot ≡ here → (here || has_slot slot slots) ≡ true → view first ≡ other first → (has_slot slot slots ≡ true → view slot ≡ other slot) → view slot ≡ other slot
@@ -103,19 +111,26 @@ pub operands_in-agree : (insn : Insn) (view other : Slot → ℕ) (msr : ℕ) �
 unfolding reads_of operands_in
 operands_in-agree insn view other msr agree = operands-agree (slice_get operations insn.row) insn view other msr agree
 
--- the register of a result
-result_at-slots : (slot : Option Slot) (value : ℕ) → slots_of (result_at slot value) ≡ slots_in slot
-result_at-slots None value = refl
-result_at-slots (Some slot) value = refl
+-- the registers of a result, of XER and of CR field 0, each where it is written
+ended-by : (slot : Option Slot) (value : ℕ) (xer field : Bool) (bits : XerBits) → slots_of (result_at slot value ++ xer_target xer bits ++ field_target field value bits.so) ≡ slots_in slot ++ slots_in (xer_if xer) ++ slots_in (field_if field)
+ended-by None value true true bits = refl
+ended-by None value true false bits = refl
+ended-by None value false true bits = refl
+ended-by None value false false bits = refl
+ended-by (Some slot) value true true bits = refl
+ended-by (Some slot) value true false bits = refl
+ended-by (Some slot) value false true bits = refl
+ended-by (Some slot) value false false bits = refl
 
-ended-slots : (ending : Ending) (places : Places) (insn : Insn) (out : AluOut) → slots_of (ended ending places insn out) ≡ ending_slots ending places insn
-ended-slots Plain places insn out = result_at-slots (register_at insn places.written) out.value
+ended-slots : (ending : Ending) (places : Places) (insn : Insn) (out : AluOut) (xer : ℕ) → slots_of (ended ending places insn out xer) ≡ ending_slots ending places insn
+ended-slots ending places insn out xer =
+    ended-by (register_at insn places.written) out.value (writes_xer ending insn) (writes_field ending insn) (bits_after ending insn out (xer_bits xer))
 
 -- what an operation comes to writes the registers that it is known to write
 effect-slots : (operation : Operation) (insn : Insn) (o : Operands) (cia : ℕ) (outcome : Outcome) → effect_of operation insn o cia ≡ Some outcome → written_slots outcome ≡ targets_by operation insn
 effect-slots (Alu row) insn o cia outcome e =
     let is : arithmetic_of row insn o cia ≡ outcome = cc in
-    ap written_slots (sym is) ∙ ended-slots row.ending (places_of (Alu row)) insn _
+    ap written_slots (sym is) ∙ ended-slots row.ending (places_of (Alu row)) insn (out_of row insn o cia) o.xer
 effect-slots (Branch B) insn o cia outcome e =
     let is : branch_of B insn o cia ≡ outcome = cc in
     ap written_slots (sym is)

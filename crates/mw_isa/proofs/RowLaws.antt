@@ -1,5 +1,5 @@
 -- What holds of each row of the instruction table.
-use Rattle.std.proofs.Common.{◌≡◌, ℕ, zero, suc, ◌*◌, ◌^◌, ◌<◌, ◌==◌, Bool, true, false, not, ◌&&◌, cond, ℤ, pos, List, [], ◌∷◌, map, Option, Some, None, IfSome, IsSomeAnd, option_map, slice_get, refl, sym, ap, ◌∙◌, subst, arith}
+use Rattle.std.proofs.Common.{◌≡◌, ℕ, zero, suc, ◌+◌, ◌*◌, ◌^◌, ◌<◌, ◌==◌, Bool, true, false, not, ◌&&◌, cond, ℤ, pos, List, [], ◌∷◌, map, Option, Some, None, IfSome, IsSomeAnd, option_map, slice_get, refl, sym, ap, ◌∙◌, subst, arith}
 use Rattle.std.specs.Int.{w64, cast_unsigned}
 use Rattle.std.proofs.lemmas.Bool.{and_parts, eqb-true, not-true}
 use Rattle.mw_tables.specs.declared.layout.Field.{Field}
@@ -9,9 +9,11 @@ use Rattle.mw_tables.specs.Rows.{lines, table, layouts}
 use Rattle.mw_tables.specs.Layouts.{fields_of, width_of, operand_at, InRange, HasOperands}
 use Rattle.mw_decode.specs.declared.insn.Insn.{Insn}
 use Rattle.mw_decode.specs.Decode.{IsInsn}
+use Rattle.mw_isa.specs.declared.operation.AluRow.{AluRow}
 use Rattle.mw_isa.specs.declared.operation.Operation.{Operation}
+use Rattle.mw_isa.specs.declared.operation.Operation.TheVariants.{Alu}
 use Rattle.mw_isa.specs.Operations.{OperationLine, operations, operation_lines}
-use Rattle.mw_isa.specs.Places.{Role, Written, First, Base, Second, Third, is_written, is_first, is_base, is_second, is_third, roles_by, limit_of, place_in, places_in, places_by, places_of, IsLimited, AreOperands, IsReadyBy, IsReady, IsRegister, HasRegisters}
+use Rattle.mw_isa.specs.Places.{Role, Written, First, Base, Second, Third, Kept, is_written, is_first, is_base, is_second, is_third, roles_by, limit_of, place_in, places_in, places_by, places_of, IsLimited, AreOperands, AreLimited, IsReadyBy, IsReady, IsRegister, HasRegisters, input_roles, operand_of}
 
 -- the list of operations names the rows of the table, in the table's order
 pub operations-named : map (λ (line : OperationLine). line.name) operation_lines ≡ map (λ (row : TableRow). row.name) table
@@ -134,6 +136,7 @@ register-in test five (role ∷ roles) (z ∷ zs) place h e =
 -- the roles of registers have five bits
 written-five : (role : Role) → is_written role ≡ true → limit_of role ≡ Some 5
 written-five Written e = refl
+written-five Kept e = refl
 written-five role e = cc
 
 first-five : (role : Role) → is_first role ≡ true → limit_of role ≡ Some 5
@@ -150,6 +153,7 @@ second-five role e = cc
 
 third-five : (role : Role) → is_third role ≡ true → limit_of role ≡ Some 5
 third-five Third e = refl
+third-five Kept e = refl
 third-five role e = cc
 
 -- a fact on the place that is there
@@ -176,3 +180,17 @@ registers-by insn (Some roles) h = registers-in insn roles h
 -- an instruction of the table has registers where its operation has them
 pub registers : (insn : Insn) (operation : Operation) → IsInsn insn → slice_get operations insn.row ≡ Some operation → HasRegisters insn (places_of operation)
 registers insn operation is at = registers-by insn (roles_by operation) (ready insn operation is at)
+
+-- operands as their roles ask, told by their places
+limited-from : (insn : Insn) (roles : List Role) (zs : List ℤ) (place : ℕ) → ((i : ℕ) → cast_unsigned w64 (operand_at zs i) ≡ operand_of insn (i + place)) → AreOperands roles zs → AreLimited insn place roles
+limited-from insn [] zs place same h = tt
+limited-from insn (role ∷ roles) [] place same h = absurd h
+limited-from insn (role ∷ roles) (z ∷ zs) place same h = (
+  subst (IsLimited (limit_of role)) (same 0 ∙ ap (operand_of insn) (omega arith)) h.0,
+  limited-from insn roles zs (suc place) (λ i. same (suc i) ∙ ap (operand_of insn) (omega arith)) h.1,
+)
+
+-- the operands of an arithmetic instruction of the table are as their roles ask
+pub limited : (insn : Insn) (row : AluRow) → IsInsn insn → slice_get operations insn.row ≡ Some (Alu row) → AreLimited insn 0 (input_roles row.inputs)
+limited insn row is at =
+    limited-from insn (input_roles row.inputs) insn.ops.items 0 (λ i. ap (operand_of insn) (omega arith)) (ready insn (Alu row) is at)

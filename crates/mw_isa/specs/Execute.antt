@@ -1,18 +1,21 @@
 -- What an instruction comes to, from the registers that it reads (Book I, fixed-point, storage access and branch
 -- instructions).
-use Rattle.std.specs.Prelude.{ℕ, ◌+◌, ◌%◌, ◌^◌, ◌==◌, Bool, true, false, if◌then◌else◌, List, [], ◌∷◌, Option, Some, None, option_map, slice_get, option_and_then}
+use Rattle.std.specs.Prelude.{ℕ, ◌+◌, ◌-◌, ◌%◌, ◌^◌, ◌==◌, Bool, true, false, if◌then◌else◌, List, [], ◌∷◌, ◌++◌, Option, Some, None, option_map, slice_get, option_and_then}
 use Rattle.std.specs.Option.{option_map_or}
 use Rattle.mw_alu.specs.declared.op.AluOut.{AluOut}
 use Rattle.mw_alu.specs.Alu.{alu_of}
+use Rattle.mw_alu.specs.Bits.{rotl32_of}
+use Rattle.mw_bits.specs.Fields.{mask_of, rotl_of}
 use Rattle.mw_decode.specs.declared.insn.Insn.{Insn}
 use Rattle.mw_tables.specs.Matching.{has_prefix}
 use Rattle.mw_isa.specs.declared.operation.Operation.{Operation}
 use Rattle.mw_isa.specs.declared.operation.Operation.TheVariants.{Alu, Branch, Storage, Hint, Later}
 use Rattle.mw_isa.specs.declared.operation.AluRow.{AluRow}
 use Rattle.mw_isa.specs.declared.operation.Carry.{Carry}
-use Rattle.mw_isa.specs.declared.operation.Carry.TheVariants.{NoCarry}
+use Rattle.mw_isa.specs.declared.operation.Carry.TheVariants.{NoCarry, Ca, Ov}
 use Rattle.mw_isa.specs.declared.operation.Ending.{Ending}
-use Rattle.mw_isa.specs.declared.operation.Ending.TheVariants.{Plain}
+use Rattle.mw_isa.specs.declared.operation.Inputs.{Inputs}
+use Rattle.mw_isa.specs.declared.operation.Inputs.TheVariants.{Next, WordShift, Shift, WordMask, WordMaskBy, WordInsert, Left, Right, Middle, Insert, LeftBy, RightBy}
 use Rattle.mw_isa.specs.declared.operation.StorageRow.{StorageRow}
 use Rattle.mw_isa.specs.declared.operation.BranchRow.{BranchRow}
 use Rattle.mw_isa.specs.declared.operation.BranchRow.TheVariants.{B}
@@ -22,11 +25,15 @@ use Rattle.mw_isa.specs.declared.outcome.Outcome.TheVariants.{Done, Memory}
 use Rattle.mw_isa.specs.declared.outcome.Target.{Target}
 use Rattle.mw_isa.specs.declared.place.Places.{Places}
 use Rattle.mw_isa.specs.declared.slot.Slot.{Slot}
+use Rattle.mw_isa.specs.declared.slot.Slot.TheVariants.{CrField, Xer}
+use Rattle.mw_isa.specs.declared.xer.XerBits.{XerBits}
 use Rattle.mw_isa.specs.Fetch.{behind}
 use Rattle.mw_isa.specs.Operations.{operations}
 use Rattle.mw_isa.specs.Places.{places_of, operand_of}
 use Rattle.mw_isa.specs.Reads.{register_at}
 use Rattle.mw_isa.specs.Slots.{known}
+use Rattle.mw_isa.specs.Endings.{writes_field, writes_xer}
+use Rattle.mw_isa.specs.Xer.{bits_after, result_field, xer_bits, xer_of}
 
 -- the address behind an instruction: behind its word, or behind its prefix and its suffix
 abbrev pub behind_insn : Insn → ℕ → ℕ
@@ -48,26 +55,94 @@ a_of places insn o cia = if is_operand insn places.own 1 then cia else if is_ope
 abbrev pub b_of : Places → Insn → Operands → ℕ
 b_of places insn o = option_map_or (operand_of insn) places.number o.b
 
--- the carry that the unit takes
+-- the operand at a place as a number; 0 where there is none
+abbrev pub number_at : Insn → Option ℕ → ℕ
+number_at insn place = option_map_or (operand_of insn) place 0
+
+-- MASK(MB+32, ME+32)
+abbrev pub word_mask : Places → Insn → ℕ
+word_mask places insn = mask_of (number_at insn places.start + 32) (number_at insn places.end + 32)
+
+-- MASK(MB, 63)
+abbrev pub left_mask : Places → Insn → ℕ
+left_mask places insn = mask_of (number_at insn places.start) 63
+
+-- MASK(0, ME)
+abbrev pub right_mask : Places → Insn → ℕ
+right_mask places insn = mask_of 0 (number_at insn places.end)
+
+-- MASK(MB, 63-SH)
+abbrev pub middle_mask : Places → Insn → ℕ
+middle_mask places insn = mask_of (number_at insn places.start) (63 - number_at insn places.number)
+
+-- a of an arithmetic row: of addpcis the address behind it, of rlwimi and rldimi the content of RS, rotated
+abbrev pub a_by : Inputs → Places → Insn → Operands → ℕ → ℕ
+a_by Next places insn o cia = behind cia
+a_by WordInsert places insn o cia = rotl32_of o.a (number_at insn places.number)
+a_by Insert places insn o cia = rotl_of o.a (number_at insn places.number)
+a_by inputs places insn o cia = a_of places insn o cia
+
+-- b of an arithmetic row: of rlwimi and rldimi the mask
+abbrev pub b_by : Inputs → Places → Insn → Operands → ℕ
+b_by WordInsert places insn o = word_mask places insn
+b_by Insert places insn o = middle_mask places insn
+b_by inputs places insn o = b_of places insn o
+
+-- c of an arithmetic row: the mask, the number of places, or the content that was read
+abbrev pub c_by : Inputs → Places → Insn → Operands → ℕ
+c_by WordShift places insn o = number_at insn places.amount
+c_by Shift places insn o = number_at insn places.amount
+c_by WordMask places insn o = word_mask places insn
+c_by WordMaskBy places insn o = word_mask places insn
+c_by Left places insn o = left_mask places insn
+c_by Right places insn o = right_mask places insn
+c_by Middle places insn o = middle_mask places insn
+c_by LeftBy places insn o = left_mask places insn
+c_by RightBy places insn o = right_mask places insn
+c_by inputs places insn o = o.c
+
+-- the carry that the unit takes: none, CA, or OV
 abbrev pub carry_of : Carry → Operands → Bool
 carry_of NoCarry o = false
+carry_of Ca o = (xer_bits o.xer).ca
+carry_of Ov o = (xer_bits o.xer).ov
 
 -- the register that gets the result, with it
 abbrev pub result_at : Option Slot → ℕ → List Target
 result_at None value = []
 result_at (Some slot) value = known slot value ∷ []
 
--- what is written at the end of an arithmetic row, in order
-abbrev pub ended : Ending → Places → Insn → AluOut → List Target
-ended Plain places insn out = result_at (register_at insn places.written) out.value
+-- XER with its bits, where it is written
+abbrev pub xer_target : Bool → XerBits → List Target
+xer_target written bits = if written then known Xer (xer_of bits) ∷ [] else []
+
+-- CR field 0 with a result's sign and SO, where it is written
+abbrev pub field_target : Bool → ℕ → Bool → List Target
+field_target written value so = if written then known (CrField 0) (result_field value so) ∷ [] else []
+
+-- what is written at the end of an arithmetic row, in order: the result, XER and CR field 0, with the bits of XER as they
+-- stand after the instruction
+abbrev pub ended_with : Ending → Places → Insn → AluOut → XerBits → List Target
+ended_with ending places insn out bits =
+    result_at (register_at insn places.written) out.value ++ xer_target (writes_xer ending insn) bits ++ field_target (writes_field ending insn) out.value bits.so
+
+-- the same from XER as it is before
+abbrev pub ended : Ending → Places → Insn → AluOut → ℕ → List Target
+ended ending places insn out xer = ended_with ending places insn out (bits_after ending insn out (xer_bits xer))
+
+-- what the unit gives for an arithmetic row whose operands stand at these places
+abbrev pub out_at : AluRow → Places → Insn → Operands → ℕ → AluOut
+out_at row places insn o cia =
+    alu_of row.op (a_by row.inputs places insn o cia) (b_by row.inputs places insn o) (c_by row.inputs places insn o) (carry_of row.carry o)
 
 -- what the unit gives for an arithmetic row
 abbrev pub out_of : AluRow → Insn → Operands → ℕ → AluOut
-out_of row insn o cia = alu_of row.op (a_of (places_of (Alu row)) insn o cia) (b_of (places_of (Alu row)) insn o) o.c (carry_of row.carry o)
+out_of row insn o cia = out_at row (places_of (Alu row)) insn o cia
 
 -- the rows whose result is there in one cycle
 abbrev pub arithmetic_of : AluRow → Insn → Operands → ℕ → Outcome
-arithmetic_of row insn o cia = Done (record { items = ended row.ending (places_of (Alu row)) insn (out_of row insn o cia) }) (behind_insn insn cia)
+arithmetic_of row insn o cia =
+    Done (record { items = ended row.ending (places_of (Alu row)) insn (out_of row insn o cia) o.xer }) (behind_insn insn cia)
 
 -- a sum in 64 bits
 abbrev pub wrapped_sum : ℕ → ℕ → ℕ

@@ -8,6 +8,8 @@ pub mod Fetch
 pub mod Operations
 pub mod Slots
 pub mod Places
+pub mod Endings
+pub mod Xer
 pub mod Reads
 pub mod Execute
 pub mod Targets

@@ -1,17 +1,17 @@
 -- What each row of the instruction table does, keyed by the row's name.
 use Rattle.std.specs.Prelude.{ℕ, true, false, List, [], ◌∷◌, map, codes}
 use Rattle.mw_alu.specs.declared.op.AluOp.{AluOp}
-use Rattle.mw_alu.specs.declared.op.AluOp.TheVariants.{Addi, Addis, Ori, Add, Paddi}
+use Rattle.mw_alu.specs.declared.op.AluOp.TheVariants.{Addi, Addis, Addic, Subfic, Addpcis, Paddi, Add, Subf, Neg, Addc, Subfc, Adde, Subfe, Addme, Subfme, Addze, Subfze, Addex, Ori, Oris, Xori, Xoris, Andi, Andis, And, Andc, Or, Orc, Xor, Eqv, Nand, Nor, Rlwinm, Rlwnm, Rlwimi, Rldicl, Rldicr, Rldic, Rldimi, Rldcl, Rldcr, Slw, Srw, Sld, Srd, Sraw, Srawi, Srad, Sradi, Extswsli, Extsb, Extsh, Extsw}
 use Rattle.mw_isa.specs.declared.memory.MemWhat.{MemWhat}
 use Rattle.mw_isa.specs.declared.memory.MemWhat.TheVariants.{Load, Store, Conditional, Zero, Clean, Icbi}
 use Rattle.mw_isa.specs.declared.operation.Operation.{Operation}
 use Rattle.mw_isa.specs.declared.operation.Operation.TheVariants.{Alu, Branch, Storage, Hint, Later}
 use Rattle.mw_isa.specs.declared.operation.Inputs.{Inputs}
-use Rattle.mw_isa.specs.declared.operation.Inputs.TheVariants.{BaseNumber, SourceNumber, Two, Relative}
+use Rattle.mw_isa.specs.declared.operation.Inputs.TheVariants.{BaseNumber, SourceNumber, Two, TwoKind, One, Relative, Next, WordShift, Shift, WordMask, WordMaskBy, WordInsert, Left, Right, Middle, Insert, LeftBy, RightBy}
 use Rattle.mw_isa.specs.declared.operation.Carry.{Carry}
-use Rattle.mw_isa.specs.declared.operation.Carry.TheVariants.{NoCarry}
+use Rattle.mw_isa.specs.declared.operation.Carry.TheVariants.{NoCarry, Ca, Ov}
 use Rattle.mw_isa.specs.declared.operation.Ending.{Ending}
-use Rattle.mw_isa.specs.declared.operation.Ending.TheVariants.{Plain}
+use Rattle.mw_isa.specs.declared.operation.Ending.TheVariants.{Plain, Carries, Records, CarriesAndRecords, Overflows}
 use Rattle.mw_isa.specs.declared.operation.BranchRow.TheVariants.{B}
 use Rattle.mw_isa.specs.declared.operation.Address.TheVariants.{Displaced, Indexed, Block, Prefixed}
 use Rattle.mw_isa.specs.declared.operation.StorageRow.{StorageRow}
@@ -81,21 +81,21 @@ unfoldable pub operation_lines : List OperationLine
 operation_lines =
     on (codes "addi") (alu Addi BaseNumber NoCarry Plain)
     ∷ on (codes "addis") (alu Addis BaseNumber NoCarry Plain)
-    ∷ on (codes "addic") Later
-    ∷ on (codes "addic.") Later
-    ∷ on (codes "subfic") Later
+    ∷ on (codes "addic") (alu Addic SourceNumber NoCarry Carries)
+    ∷ on (codes "addic.") (alu Addic SourceNumber NoCarry CarriesAndRecords)
+    ∷ on (codes "subfic") (alu Subfic SourceNumber NoCarry Carries)
     ∷ on (codes "mulli") Later
     ∷ on (codes "cmpi") Later
     ∷ on (codes "cmpli") Later
     ∷ on (codes "tdi") Later
     ∷ on (codes "twi") Later
     ∷ on (codes "ori") (alu Ori SourceNumber NoCarry Plain)
-    ∷ on (codes "oris") Later
-    ∷ on (codes "xori") Later
-    ∷ on (codes "xoris") Later
-    ∷ on (codes "andi.") Later
-    ∷ on (codes "andis.") Later
-    ∷ on (codes "addpcis") Later
+    ∷ on (codes "oris") (alu Oris SourceNumber NoCarry Plain)
+    ∷ on (codes "xori") (alu Xori SourceNumber NoCarry Plain)
+    ∷ on (codes "xoris") (alu Xoris SourceNumber NoCarry Plain)
+    ∷ on (codes "andi.") (alu Andi SourceNumber NoCarry Records)
+    ∷ on (codes "andis.") (alu Andis SourceNumber NoCarry Records)
+    ∷ on (codes "addpcis") (alu Addpcis Next NoCarry Plain)
     ∷ on (codes "b") (Branch B)
     ∷ on (codes "bc") Later
     ∷ on (codes "bclr") Later
@@ -110,29 +110,29 @@ operation_lines =
     ∷ on (codes "crorc") Later
     ∷ on (codes "cror") Later
     ∷ on (codes "mcrf") Later
-    ∷ on (codes "rlwinm") Later
-    ∷ on (codes "rlwnm") Later
-    ∷ on (codes "rlwimi") Later
-    ∷ on (codes "rldicl") Later
-    ∷ on (codes "rldicr") Later
-    ∷ on (codes "rldic") Later
-    ∷ on (codes "rldimi") Later
-    ∷ on (codes "rldcl") Later
-    ∷ on (codes "rldcr") Later
+    ∷ on (codes "rlwinm") (alu Rlwinm WordMask NoCarry Plain)
+    ∷ on (codes "rlwnm") (alu Rlwnm WordMaskBy NoCarry Plain)
+    ∷ on (codes "rlwimi") (alu Rlwimi WordInsert NoCarry Plain)
+    ∷ on (codes "rldicl") (alu Rldicl Left NoCarry Plain)
+    ∷ on (codes "rldicr") (alu Rldicr Right NoCarry Plain)
+    ∷ on (codes "rldic") (alu Rldic Middle NoCarry Plain)
+    ∷ on (codes "rldimi") (alu Rldimi Insert NoCarry Plain)
+    ∷ on (codes "rldcl") (alu Rldcl LeftBy NoCarry Plain)
+    ∷ on (codes "rldcr") (alu Rldcr RightBy NoCarry Plain)
     ∷ on (codes "maddhd") Later
     ∷ on (codes "maddhdu") Later
     ∷ on (codes "maddld") Later
     ∷ on (codes "add") (alu Add Two NoCarry Plain)
-    ∷ on (codes "subf") Later
-    ∷ on (codes "neg") Later
-    ∷ on (codes "addc") Later
-    ∷ on (codes "subfc") Later
-    ∷ on (codes "adde") Later
-    ∷ on (codes "subfe") Later
-    ∷ on (codes "addme") Later
-    ∷ on (codes "subfme") Later
-    ∷ on (codes "addze") Later
-    ∷ on (codes "subfze") Later
+    ∷ on (codes "subf") (alu Subf Two NoCarry Plain)
+    ∷ on (codes "neg") (alu Neg One NoCarry Plain)
+    ∷ on (codes "addc") (alu Addc Two NoCarry Carries)
+    ∷ on (codes "subfc") (alu Subfc Two NoCarry Carries)
+    ∷ on (codes "adde") (alu Adde Two Ca Carries)
+    ∷ on (codes "subfe") (alu Subfe Two Ca Carries)
+    ∷ on (codes "addme") (alu Addme One Ca Carries)
+    ∷ on (codes "subfme") (alu Subfme One Ca Carries)
+    ∷ on (codes "addze") (alu Addze One Ca Carries)
+    ∷ on (codes "subfze") (alu Subfze One Ca Carries)
     ∷ on (codes "mullw") Later
     ∷ on (codes "mulld") Later
     ∷ on (codes "mulhd") Later
@@ -151,27 +151,27 @@ operation_lines =
     ∷ on (codes "modud") Later
     ∷ on (codes "modsw") Later
     ∷ on (codes "moduw") Later
-    ∷ on (codes "addex") Later
-    ∷ on (codes "and") Later
-    ∷ on (codes "andc") Later
-    ∷ on (codes "or") Later
-    ∷ on (codes "orc") Later
-    ∷ on (codes "xor") Later
-    ∷ on (codes "eqv") Later
-    ∷ on (codes "nand") Later
-    ∷ on (codes "nor") Later
-    ∷ on (codes "slw") Later
-    ∷ on (codes "srw") Later
-    ∷ on (codes "sld") Later
-    ∷ on (codes "srd") Later
-    ∷ on (codes "sraw") Later
-    ∷ on (codes "srawi") Later
-    ∷ on (codes "srad") Later
-    ∷ on (codes "sradi") Later
-    ∷ on (codes "extswsli") Later
-    ∷ on (codes "extsb") Later
-    ∷ on (codes "extsh") Later
-    ∷ on (codes "extsw") Later
+    ∷ on (codes "addex") (alu Addex TwoKind Ov Overflows)
+    ∷ on (codes "and") (alu And Two NoCarry Plain)
+    ∷ on (codes "andc") (alu Andc Two NoCarry Plain)
+    ∷ on (codes "or") (alu Or Two NoCarry Plain)
+    ∷ on (codes "orc") (alu Orc Two NoCarry Plain)
+    ∷ on (codes "xor") (alu Xor Two NoCarry Plain)
+    ∷ on (codes "eqv") (alu Eqv Two NoCarry Plain)
+    ∷ on (codes "nand") (alu Nand Two NoCarry Plain)
+    ∷ on (codes "nor") (alu Nor Two NoCarry Plain)
+    ∷ on (codes "slw") (alu Slw Two NoCarry Plain)
+    ∷ on (codes "srw") (alu Srw Two NoCarry Plain)
+    ∷ on (codes "sld") (alu Sld Two NoCarry Plain)
+    ∷ on (codes "srd") (alu Srd Two NoCarry Plain)
+    ∷ on (codes "sraw") (alu Sraw Two NoCarry Carries)
+    ∷ on (codes "srawi") (alu Srawi WordShift NoCarry Carries)
+    ∷ on (codes "srad") (alu Srad Two NoCarry Carries)
+    ∷ on (codes "sradi") (alu Sradi Shift NoCarry Carries)
+    ∷ on (codes "extswsli") (alu Extswsli Shift NoCarry Plain)
+    ∷ on (codes "extsb") (alu Extsb One NoCarry Plain)
+    ∷ on (codes "extsh") (alu Extsh One NoCarry Plain)
+    ∷ on (codes "extsw") (alu Extsw One NoCarry Plain)
     ∷ on (codes "cntlzw") Later
     ∷ on (codes "cntlzd") Later
     ∷ on (codes "cnttzw") Later

@@ -12,18 +12,25 @@ use Rattle.mw_isa.specs.declared.operation.Address.TheVariants.{Displaced, Index
 use Rattle.mw_isa.specs.declared.operation.BranchRow.{BranchRow}
 use Rattle.mw_isa.specs.declared.operation.BranchRow.TheVariants.{B}
 use Rattle.mw_isa.specs.declared.operation.Inputs.{Inputs}
-use Rattle.mw_isa.specs.declared.operation.Inputs.TheVariants.{BaseNumber, SourceNumber, Two, Relative}
+use Rattle.mw_isa.specs.declared.operation.Inputs.TheVariants.{BaseNumber, SourceNumber, Two, TwoKind, One, Relative, Next, WordShift, Shift, WordMask, WordMaskBy, WordInsert, Left, Right, Middle, Insert, LeftBy, RightBy}
 use Rattle.mw_isa.specs.declared.place.Places.{Places}
 
 -- what an operand is: a register that is written; one that is read as a, also where register 0 stands for 0 (RA|0), as b
--- or as c; the number that stands as b; R, which is 1 where the instruction's own address stands as a; or nothing
+-- or as c; one that is read as c and written; the number that stands as b, also one of so many bits, which counts the
+-- places of a rotation; the number of so many bits that stands as c; the first and the last bit of a mask, as numbers of
+-- so many bits; R, which is 1 where the instruction's own address stands as a; or nothing
 pub data Role : Type 0 where
   Written : Role
   First : Role
   Base : Role
   Second : Role
   Third : Role
+  Kept : Role
   Number : Role
+  Count : ℕ → Role
+  Amount : ℕ → Role
+  Start : ℕ → Role
+  End : ℕ → Role
   Own : Role
   Unused : Role
 
@@ -31,12 +38,38 @@ pub data Role : Type 0 where
 abbrev pub input_roles : Inputs → List Role
 -- RT,RA,SI
 input_roles BaseNumber = Written ∷ Base ∷ Number ∷ []
--- RA,RS,UI
+-- RT,RA,SI or RA,RS,UI
 input_roles SourceNumber = Written ∷ First ∷ Number ∷ []
--- RT,RA,RB
+-- RT,RA,RB or RA,RS,RB
 input_roles Two = Written ∷ First ∷ Second ∷ []
+-- RT,RA,RB,CY
+input_roles TwoKind = Written ∷ First ∷ Second ∷ Unused ∷ []
+-- RT,RA or RA,RS
+input_roles One = Written ∷ First ∷ []
 -- RT,RA,SI,R
 input_roles Relative = Written ∷ Base ∷ Number ∷ Own ∷ []
+-- RT,D
+input_roles Next = Written ∷ Number ∷ []
+-- RA,RS,SH
+input_roles WordShift = Written ∷ First ∷ Amount 5 ∷ []
+input_roles Shift = Written ∷ First ∷ Amount 6 ∷ []
+-- RA,RS,SH,MB,ME
+input_roles WordMask = Written ∷ First ∷ Count 5 ∷ Start 5 ∷ End 5 ∷ []
+-- RA,RS,RB,MB,ME
+input_roles WordMaskBy = Written ∷ First ∷ Second ∷ Start 5 ∷ End 5 ∷ []
+-- RA,RS,SH,MB,ME
+input_roles WordInsert = Kept ∷ First ∷ Count 5 ∷ Start 5 ∷ End 5 ∷ []
+-- RA,RS,SH,MB
+input_roles Left = Written ∷ First ∷ Count 6 ∷ Start 6 ∷ []
+-- RA,RS,SH,ME
+input_roles Right = Written ∷ First ∷ Count 6 ∷ End 6 ∷ []
+-- RA,RS,SH,MB
+input_roles Middle = Written ∷ First ∷ Count 6 ∷ Start 6 ∷ []
+input_roles Insert = Kept ∷ First ∷ Count 6 ∷ Start 6 ∷ []
+-- RA,RS,RB,MB
+input_roles LeftBy = Written ∷ First ∷ Second ∷ Start 6 ∷ []
+-- RA,RS,RB,ME
+input_roles RightBy = Written ∷ First ∷ Second ∷ End 6 ∷ []
 
 -- the register that an access loads or stores
 abbrev pub datum_role : MemWhat → Role
@@ -72,6 +105,7 @@ roles_by Later = None
 -- the roles, each by a test
 abbrev pub is_written : Role → Bool
 is_written Written = true
+is_written Kept = true
 is_written role = false
 
 abbrev pub is_first : Role → Bool
@@ -88,11 +122,25 @@ is_second role = false
 
 abbrev pub is_third : Role → Bool
 is_third Third = true
+is_third Kept = true
 is_third role = false
 
 abbrev pub is_number : Role → Bool
 is_number Number = true
+is_number (Count bits) = true
 is_number role = false
+
+abbrev pub is_amount : Role → Bool
+is_amount (Amount bits) = true
+is_amount role = false
+
+abbrev pub is_start : Role → Bool
+is_start (Start bits) = true
+is_start role = false
+
+abbrev pub is_end : Role → Bool
+is_end (End bits) = true
+is_end role = false
 
 abbrev pub is_own : Role → Bool
 is_own Own = true
@@ -112,6 +160,9 @@ places_in roles = record {
   second = place_in is_second roles;
   third = place_in is_third roles;
   number = place_in is_number roles;
+  amount = place_in is_amount roles;
+  start = place_in is_start roles;
+  end = place_in is_end roles;
   own = place_in is_own roles;
 }
 
@@ -138,14 +189,19 @@ places_of operation = places_by (roles_by operation)
 abbrev pub operand_of : Insn → ℕ → ℕ
 operand_of insn place = cast_unsigned w64 (operand_at insn.ops.items place)
 
--- how many bits an operand of a role has, where that is asked: a register's five, R's one
+-- how many bits an operand of a role has, where that is asked: a register's five, R's one, those of a count or a place
 abbrev pub limit_of : Role → Option ℕ
 limit_of Written = Some 5
 limit_of First = Some 5
 limit_of Base = Some 5
 limit_of Second = Some 5
 limit_of Third = Some 5
+limit_of Kept = Some 5
 limit_of Number = None
+limit_of (Count bits) = Some bits
+limit_of (Amount bits) = Some bits
+limit_of (Start bits) = Some bits
+limit_of (End bits) = Some bits
 limit_of Own = Some 1
 limit_of Unused = None
 
@@ -180,3 +236,8 @@ pub record HasRegisters (insn : Insn) (places : Places) : Type 0 where
   pub at_base : IfSome places.base (IsRegister insn)
   pub at_second : IfSome places.second (IsRegister insn)
   pub at_third : IfSome places.third (IsRegister insn)
+
+-- the operands from a place on are as these roles ask
+abbrev pub AreLimited : Insn → ℕ → List Role → Type 0
+AreLimited insn place [] = ⊤
+AreLimited insn place (role ∷ roles) = IsLimited (limit_of role) (operand_of insn place) × AreLimited insn (suc place) roles

@@ -141,9 +141,9 @@ abbrev pub raises_of : UnderWay → (Slot → ℕ) → ℕ → Option Raised
 raises_of it view msr =
     earlier (fetch_raises it.real) (earlier (option_and_then (λ words. words_raise words view) it.words) (option_and_then (λ outcome. end_raises outcome it.placed msr) it.outcome))
 
--- an instruction of a row and a form that are built: it has neither OE, Rc nor LK
+-- an instruction of a row and a form that are built: it hasn't LK
 abbrev pub is_built : Insn → Bool
-is_built insn = is_built_row insn && (not insn.oe && (not insn.rc && not insn.lk))
+is_built insn = is_built_row insn && not insn.lk
 
 -- the words were fetched, aren't cut off, and are an instruction of a row and a form that are built
 abbrev pub is_built_insn : Option Insn → Bool

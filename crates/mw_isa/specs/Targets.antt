@@ -1,11 +1,10 @@
 -- The registers that an instruction writes, known before their values.
-use Rattle.std.specs.Prelude.{ℕ, List, [], ◌∷◌, Option, Some, None, slice_get}
+use Rattle.std.specs.Prelude.{ℕ, List, [], ◌∷◌, ◌++◌, Option, Some, None, slice_get}
 use Rattle.std.specs.Option.{option_map_or}
 use Rattle.mw_decode.specs.declared.insn.Insn.{Insn}
 use Rattle.mw_isa.specs.declared.memory.MemWhat.{MemWhat}
 use Rattle.mw_isa.specs.declared.memory.MemWhat.TheVariants.{Load, Store, Conditional}
 use Rattle.mw_isa.specs.declared.operation.Ending.{Ending}
-use Rattle.mw_isa.specs.declared.operation.Ending.TheVariants.{Plain}
 use Rattle.mw_isa.specs.declared.operation.Operation.{Operation}
 use Rattle.mw_isa.specs.declared.operation.Operation.TheVariants.{Alu, Branch, Storage, Hint, Later}
 use Rattle.mw_isa.specs.declared.outcome.Outcome.{Outcome}
@@ -14,6 +13,7 @@ use Rattle.mw_isa.specs.declared.place.Places.{Places}
 use Rattle.mw_isa.specs.declared.slot.Slot.{Slot}
 use Rattle.mw_isa.specs.declared.slot.Slot.TheVariants.{Gpr, CrField}
 use Rattle.mw_isa.specs.Execute.{loaded_of, updated_of}
+use Rattle.mw_isa.specs.Endings.{field_if, writes_field, writes_xer, xer_if}
 use Rattle.mw_isa.specs.Operations.{operations}
 use Rattle.mw_isa.specs.Places.{places_of}
 use Rattle.mw_isa.specs.Reads.{register_at, slots_in}
@@ -31,9 +31,10 @@ access_slots (Store reversed) to update = update_slots update
 access_slots (Conditional reversed) to update = CrField 0 ∷ []
 access_slots what to update = []
 
--- what is written at the end of an arithmetic row
+-- what is written at the end of an arithmetic row, in order: the result's register, XER and CR field 0
 abbrev pub ending_slots : Ending → Places → Insn → List Slot
-ending_slots Plain places insn = slots_in (register_at insn places.written)
+ending_slots ending places insn =
+    slots_in (register_at insn places.written) ++ slots_in (xer_if (writes_xer ending insn)) ++ slots_in (field_if (writes_field ending insn))
 
 -- what an operation writes, in order
 abbrev pub targets_by : Operation → Insn → List Slot

@@ -3,6 +3,7 @@
 #![tactic(auto)]
 
 mod access;
+mod ending;
 mod event;
 mod events;
 mod fetched;
@@ -21,8 +22,10 @@ mod slots;
 mod sources;
 mod state;
 mod vector;
+mod xer;
 
 pub use access::{Deed, Kind, Span, Touch};
+pub use ending::{sets_carries, writes_field, writes_overflows, writes_xer};
 pub use event::{End, Event};
 pub use events::Events;
 pub use fetched::{Fetched, is_cut};
@@ -42,3 +45,4 @@ pub use slot_set::SlotSet;
 pub use slots::{get_slot, set_slot, set_targets};
 pub use state::State;
 pub use vector::Vector;
+pub use xer::{XerBits, xer_bits, xer_of};

@@ -33,17 +33,45 @@ pub struct AluRow {
     pub ending: Ending,
 }
 
-/// How the operands of an arithmetic row make the numbers that its unit takes, by operand list.
+/// How the operands of an arithmetic row make the numbers a, b and c that its unit takes, by operand list.
 #[derive(Clone, Copy, Debug, PartialEq, Eq)]
 pub enum Inputs {
     /// RT,RA,SI: a is RA|0, b the number.
     BaseNumber,
-    /// RA,RS,UI: a is RS, b the number.
+    /// RT,RA,SI or RA,RS,UI: a is RA or RS, b the number.
     SourceNumber,
-    /// RT,RA,RB: a is RA, b is RB.
+    /// RT,RA,RB or RA,RS,RB: a is RA or RS, b is RB.
     Two,
+    /// RT,RA,RB,CY: a is RA, b is RB.
+    TwoKind,
+    /// RT,RA or RA,RS: a is RA or RS.
+    One,
     /// RT,RA,SI,R: a is RA|0, or the instruction's own address where R is 1; b the number.
     Relative,
+    /// RT,D: a is the address behind the instruction, b the number.
+    Next,
+    /// RA,RS,SH: a is RS, c the number of places, below 32.
+    WordShift,
+    /// RA,RS,SH: a is RS, c the number of places, below 64.
+    Shift,
+    /// RA,RS,SH,MB,ME: a is RS, b the count, c the mask from MB to ME of the low word.
+    WordMask,
+    /// RA,RS,RB,MB,ME: a is RS, b is RB, c the mask from MB to ME of the low word.
+    WordMaskBy,
+    /// RA,RS,SH,MB,ME: a is RS, rotated as a word; b the mask from MB to ME of the low word, c the old RA.
+    WordInsert,
+    /// RA,RS,SH,MB: a is RS, b the count, c the mask from MB to the end.
+    Left,
+    /// RA,RS,SH,ME: a is RS, b the count, c the mask from the start to ME.
+    Right,
+    /// RA,RS,SH,MB: a is RS, b the count, c the mask from MB to where the bits from behind the end begin.
+    Middle,
+    /// RA,RS,SH,MB: a is RS, rotated; b the mask that `Middle` has, c the old RA.
+    Insert,
+    /// RA,RS,RB,MB: a is RS, b is RB, c the mask from MB to the end.
+    LeftBy,
+    /// RA,RS,RB,ME: a is RS, b is RB, c the mask from the start to ME.
+    RightBy,
 }
 
 /// The carry that a unit takes.
@@ -51,13 +79,25 @@ pub enum Inputs {
 pub enum Carry {
     /// None.
     NoCarry,
+    /// CA.
+    Ca,
+    /// OV, which addex takes as a carry.
+    Ov,
 }
 
-/// What an arithmetic row writes beside its result.
+/// What an arithmetic row writes beside its result, whatever OE and Rc ask for.
 #[derive(Clone, Copy, Debug, PartialEq, Eq)]
 pub enum Ending {
     /// Nothing.
     Plain,
+    /// CA and CA32.
+    Carries,
+    /// CR field 0.
+    Records,
+    /// CA, CA32 and CR field 0.
+    CarriesAndRecords,
+    /// OV and OV32, and SO stays (addex).
+    Overflows,
 }
 
 /// The rows that branch (Book I, branch instructions).
@@ -106,21 +146,21 @@ macro_rules! alu {
 static OPERATIONS: [Operation; 224] = [
     alu!(Addi, BaseNumber, NoCarry, Plain), // addi
     alu!(Addis, BaseNumber, NoCarry, Plain), // addis
-    Operation::Later, // addic
-    Operation::Later, // addic.
-    Operation::Later, // subfic
+    alu!(Addic, SourceNumber, NoCarry, Carries), // addic
+    alu!(Addic, SourceNumber, NoCarry, CarriesAndRecords), // addic.
+    alu!(Subfic, SourceNumber, NoCarry, Carries), // subfic
     Operation::Later, // mulli
     Operation::Later, // cmpi
     Operation::Later, // cmpli
     Operation::Later, // tdi
     Operation::Later, // twi
     alu!(Ori, SourceNumber, NoCarry, Plain), // ori
-    Operation::Later, // oris
-    Operation::Later, // xori
-    Operation::Later, // xoris
-    Operation::Later, // andi.
-    Operation::Later, // andis.
-    Operation::Later, // addpcis
+    alu!(Oris, SourceNumber, NoCarry, Plain), // oris
+    alu!(Xori, SourceNumber, NoCarry, Plain), // xori
+    alu!(Xoris, SourceNumber, NoCarry, Plain), // xoris
+    alu!(Andi, SourceNumber, NoCarry, Records), // andi.
+    alu!(Andis, SourceNumber, NoCarry, Records), // andis.
+    alu!(Addpcis, Next, NoCarry, Plain), // addpcis
     Operation::Branch(BranchRow::B), // b
     Operation::Later, // bc
     Operation::Later, // bclr
@@ -135,29 +175,29 @@ static OPERATIONS: [Operation; 224] = [
     Operation::Later, // crorc
     Operation::Later, // cror
     Operation::Later, // mcrf
-    Operation::Later, // rlwinm
-    Operation::Later, // rlwnm
-    Operation::Later, // rlwimi
-    Operation::Later, // rldicl
-    Operation::Later, // rldicr
-    Operation::Later, // rldic
-    Operation::Later, // rldimi
-    Operation::Later, // rldcl
-    Operation::Later, // rldcr
+    alu!(Rlwinm, WordMask, NoCarry, Plain), // rlwinm
+    alu!(Rlwnm, WordMaskBy, NoCarry, Plain), // rlwnm
+    alu!(Rlwimi, WordInsert, NoCarry, Plain), // rlwimi
+    alu!(Rldicl, Left, NoCarry, Plain), // rldicl
+    alu!(Rldicr, Right, NoCarry, Plain), // rldicr
+    alu!(Rldic, Middle, NoCarry, Plain), // rldic
+    alu!(Rldimi, Insert, NoCarry, Plain), // rldimi
+    alu!(Rldcl, LeftBy, NoCarry, Plain), // rldcl
+    alu!(Rldcr, RightBy, NoCarry, Plain), // rldcr
     Operation::Later, // maddhd
     Operation::Later, // maddhdu
     Operation::Later, // maddld
     alu!(Add, Two, NoCarry, Plain), // add
-    Operation::Later, // subf
-    Operation::Later, // neg
-    Operation::Later, // addc
-    Operation::Later, // subfc
-    Operation::Later, // adde
-    Operation::Later, // subfe
-    Operation::Later, // addme
-    Operation::Later, // subfme
-    Operation::Later, // addze
-    Operation::Later, // subfze
+    alu!(Subf, Two, NoCarry, Plain), // subf
+    alu!(Neg, One, NoCarry, Plain), // neg
+    alu!(Addc, Two, NoCarry, Carries), // addc
+    alu!(Subfc, Two, NoCarry, Carries), // subfc
+    alu!(Adde, Two, Ca, Carries), // adde
+    alu!(Subfe, Two, Ca, Carries), // subfe
+    alu!(Addme, One, Ca, Carries), // addme
+    alu!(Subfme, One, Ca, Carries), // subfme
+    alu!(Addze, One, Ca, Carries), // addze
+    alu!(Subfze, One, Ca, Carries), // subfze
     Operation::Later, // mullw
     Operation::Later, // mulld
     Operation::Later, // mulhd
@@ -176,27 +216,27 @@ static OPERATIONS: [Operation; 224] = [
     Operation::Later, // modud
     Operation::Later, // modsw
     Operation::Later, // moduw
-    Operation::Later, // addex
-    Operation::Later, // and
-    Operation::Later, // andc
-    Operation::Later, // or
-    Operation::Later, // orc
-    Operation::Later, // xor
-    Operation::Later, // eqv
-    Operation::Later, // nand
-    Operation::Later, // nor
-    Operation::Later, // slw
-    Operation::Later, // srw
-    Operation::Later, // sld
-    Operation::Later, // srd
-    Operation::Later, // sraw
-    Operation::Later, // srawi
-    Operation::Later, // srad
-    Operation::Later, // sradi
-    Operation::Later, // extswsli
-    Operation::Later, // extsb
-    Operation::Later, // extsh
-    Operation::Later, // extsw
+    alu!(Addex, TwoKind, Ov, Overflows), // addex
+    alu!(And, Two, NoCarry, Plain), // and
+    alu!(Andc, Two, NoCarry, Plain), // andc
+    alu!(Or, Two, NoCarry, Plain), // or
+    alu!(Orc, Two, NoCarry, Plain), // orc
+    alu!(Xor, Two, NoCarry, Plain), // xor
+    alu!(Eqv, Two, NoCarry, Plain), // eqv
+    alu!(Nand, Two, NoCarry, Plain), // nand
+    alu!(Nor, Two, NoCarry, Plain), // nor
+    alu!(Slw, Two, NoCarry, Plain), // slw
+    alu!(Srw, Two, NoCarry, Plain), // srw
+    alu!(Sld, Two, NoCarry, Plain), // sld
+    alu!(Srd, Two, NoCarry, Plain), // srd
+    alu!(Sraw, Two, NoCarry, Carries), // sraw
+    alu!(Srawi, WordShift, NoCarry, Carries), // srawi
+    alu!(Srad, Two, NoCarry, Carries), // srad
+    alu!(Sradi, Shift, NoCarry, Carries), // sradi
+    alu!(Extswsli, Shift, NoCarry, Plain), // extswsli
+    alu!(Extsb, One, NoCarry, Plain), // extsb
+    alu!(Extsh, One, NoCarry, Plain), // extsh
+    alu!(Extsw, One, NoCarry, Plain), // extsw
     Operation::Later, // cntlzw
     Operation::Later, // cntlzd
     Operation::Later, // cnttzw

@@ -9,10 +9,16 @@ pub struct Places {
     pub base: Option<u8>,
     /// The register that is read as b.
     pub second: Option<u8>,
-    /// The register that is read as c.
+    /// The register that is read as c; the one that is written, where its old content counts.
     pub third: Option<u8>,
-    /// The number that stands as b.
+    /// The number that stands as b, or the count of a rotation.
     pub number: Option<u8>,
+    /// The number of places that stands as c.
+    pub amount: Option<u8>,
+    /// The first bit of a mask.
+    pub start: Option<u8>,
+    /// The last bit of a mask.
+    pub end: Option<u8>,
     /// R, which is 1 where the instruction's own address stands as a.
     pub own: Option<u8>,
 }

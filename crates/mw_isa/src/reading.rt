@@ -1,12 +1,14 @@
 ghost use Rattle.std.specs.Prelude.{◌≡◌, ℕ, ◌<◌, [], IfSome};
 ghost use Rattle.mw_decode.specs.Decode.{IsInsn};
 ghost use Rattle.mw_isa.specs.declared.slot.Slot.{Slot};
+ghost use Rattle.mw_isa.specs.Endings.{xer_if};
 ghost use Rattle.mw_isa.specs.Execute.{loaded_of, updated_of};
 ghost use Rattle.mw_isa.specs.Places.{HasRegisters, IsRegister, places_of};
-ghost use Rattle.mw_isa.specs.Reads.{base_at, first_source, held, operands_by, operands_in, reads_of, register_at, slots_in, sources_at};
+ghost use Rattle.mw_isa.specs.Reads.{base_at, first_source, held, operands_by, operands_in, reads_of, register_at, slots_in, sources_at, special_reads};
 ghost use Rattle.mw_isa.specs.Slots.{IsSlot, bits_of, get_slot};
 ghost use Rattle.mw_isa.specs.Targets.{access_slots, ending_slots, targets_by, targets_of, update_slots};
 
+use crate::ending::{field_if, reads_xer, writes_field, writes_xer, xer_if};
 use crate::memory::MemWhat;
 use crate::operation::{Ending, Operation, StorageRow, operation_at};
 use crate::outcome::Operands;
@@ -105,8 +107,8 @@ fn held<V: SlotView>(view: &V, slot: Option<Slot>) -> u64
     }
 }
 
-/// The operands that are made of these registers as they are seen.
-fn operands_by<V: SlotView>(sources: Sources, view: &V, msr: u64) -> Operands
+/// The operands that are made of these registers alone, as they are seen.
+fn plain_operands<V: SlotView>(sources: Sources, view: &V, msr: u64) -> Operands
     ensures { result ≡ operands_by sources [] (V.view view.now) msr }
 {
     Operands {
@@ -122,6 +124,34 @@ fn operands_by<V: SlotView>(sources: Sources, view: &V, msr: u64) -> Operands
     }
 }
 
+/// The operands that are made of these registers, and of XER where it is read, as they are seen.
+fn operands_by<V: SlotView>(sources: Sources, xer: bool, view: &V, msr: u64) -> Operands
+    ensures { result ≡ operands_by sources (slots_in (xer_if xer)) (V.view view.now) msr }
+{
+    let plain = plain_operands(sources, view, msr);
+    if xer {
+        Operands {
+            xer: view.slot(Slot::Xer),
+            ..plain
+        }
+    } else {
+        plain
+    }
+}
+
+/// Whether an operation reads XER, which is the one register that it reads beside its operands.
+fn special_xer(operation: Operation, insn: &Insn) -> bool
+    ensures { special_reads operation insn.now ≡ slots_in (xer_if result) }
+{
+    match operation {
+        Operation::Alu(row) => reads_xer(row, insn),
+        Operation::Branch(_) => false,
+        Operation::Storage(_) => false,
+        Operation::Hint => false,
+        Operation::Later => false,
+    }
+}
+
 /// The operands of an instruction, where registers are seen so and `msr` is the machine state register: the
 /// content of each register that it reads, and 0 in every part that it doesn't read. It can't fail.
 #[tactic(auto, unfolding(crate::specs::Reads::operands_in))]
@@ -129,8 +159,10 @@ pub fn operands<V: SlotView>(insn: &Insn, view: &V, msr: u64) -> Operands
     requires { IsInsn insn.now }
     ensures { result ≡ operands_in insn.now (V.view view.now) msr }
 {
+    let operation = operation_at(insn.row);
     operands_by(
-        sources_at(insn, places_of(operation_at(insn.row))),
+        sources_at(insn, places_of(operation)),
+        special_xer(operation, insn),
         view,
         msr,
     )
@@ -141,8 +173,10 @@ pub fn reads(insn: &Insn) -> SlotSet
     requires { IsInsn insn.now }
     ensures { result.bits ≡ bits_of (reads_of insn.now) }
 {
-    let sources = sources_at(insn, places_of(operation_at(insn.row)));
+    let operation = operation_at(insn.row);
+    let sources = sources_at(insn, places_of(operation));
     SlotSet::NONE
+        .with(xer_if(special_xer(operation, insn)))
         .with(sources.c)
         .with(sources.b)
         .with(sources.a)
@@ -218,9 +252,10 @@ fn ending_set(ending: Ending, insn: &Insn, places: Places) -> SlotSet
     requires { HasRegisters insn.now places }
     ensures { result.bits ≡ bits_of (ending_slots ending places insn.now) }
 {
-    match ending {
-        Ending::Plain => only(register_at(insn, places.written)),
-    }
+    SlotSet::NONE
+        .with(field_if(writes_field(ending, insn)))
+        .with(xer_if(writes_xer(ending, insn)))
+        .with(register_at(insn, places.written))
 }
 
 /// The registers that an operation writes.

@@ -2,7 +2,7 @@ use Rattle.std.proofs.Common.{sym, subst}
 use Rattle.mw_decode.proofs.Ranges.{IsInsn-row}
 use Rattle.mw_isa.specs.Storage.{IsSized, OnMemory}
 use Rattle.mw_isa.proofs.StorageLaws.{storage-sized}
-use Rattle.mw_isa.proofs.RowLaws.{registers}
+use Rattle.mw_isa.proofs.RowLaws.{limited, registers}
 use Rattle.mw_isa.specs.declared.operation.Operation.TheVariants.{Alu, Storage}
 use Rattle.mw_exec.proofs.unit.exec.Goals as goal
 
@@ -17,6 +17,9 @@ behind_insn-requires c = IsInsn-row c.args.insn.now c.requires.insn
 
 pub arithmetic_of-requires-clause-registers : goal.arithmetic_of-requires-clause-registers
 arithmetic_of-requires-clause-registers c = registers c.args.insn.now (Alu c.in-Alu.row) c.requires.insn c.in-Alu.ensures
+
+pub arithmetic_of-requires-clause-limits : goal.arithmetic_of-requires-clause-limits
+arithmetic_of-requires-clause-limits c = limited c.args.insn.now c.in-Alu.row c.requires.insn c.in-Alu.ensures
 
 pub storage_of-requires : goal.storage_of-requires
 storage_of-requires c = registers c.args.insn.now (Storage c.in-Storage.row) c.requires.insn c.in-Storage.ensures

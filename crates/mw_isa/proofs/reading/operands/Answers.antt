@@ -4,9 +4,9 @@ use Rattle.mw_isa.specs.Places.{HasRegisters}
 use Rattle.mw_isa.proofs.RowLaws.{registers}
 use Rattle.mw_isa.proofs.reading.operands.Goals as goal
 
-pub operation_at-requires : goal.operation_at-requires
-operation_at-requires g c = IsInsn-row c.args.insn.now c.requires
+pub operation_at-operation-requires : goal.operation_at-operation-requires
+operation_at-operation-requires g c = IsInsn-row c.args.insn.now c.requires
 
 pub sources_at-requires : goal.sources_at-requires
 sources_at-requires g c =
-    subst (HasRegisters c.args.insn.now) (sym c.places_of.ensures) (registers c.args.insn.now c.operation_at.result c.requires c.operation_at.ensures)
+    subst (HasRegisters c.args.insn.now) (sym c.places_of.ensures) (registers c.args.insn.now c.operation_at-operation.result c.requires c.operation_at-operation.ensures)
