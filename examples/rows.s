@@ -1,4 +1,5 @@
-# Each instruction that runs today, once: sums, a branch, loads and stores of every width, cache, prefixed rows.
+# Each instruction that runs today, once: sums, a branch, loads and stores of every width, cache, prefixed rows, and
+# results with carries, of logic, rotates and shifts.
         addi   r3, r0, 0x400    # r3: where the bytes stand
         addis  r4, r0, -2       # r4 = fffffffffffe0000
         ori    r4, r4, 0x8081   # r4 = fffffffffffe8081
@@ -100,4 +101,57 @@ wide:   paddi  r15, r0, 0x10400, 0
         plwa   r19, 4(r15), 0   # fffffffffffe8081
         pld    r20, 8(r15), 0   # fffffffffffe8081
         pnop
+
+# Results that are there in one cycle, of the word fffe8081 and its extensions.
+        li     r21, -1
+        li     r22, 1
+        addic  r23, r21, 1      # 0, with CA
+        addze  r23, r23         # 1
+        addic. r23, r21, 1      # 0, with CA and CR field 0
+        adde   r23, r18, r19    # fffffffd0103
+        subfe  r23, r18, r19
+        addme  r23, r18
+        subfme r23, r18
+        subfze r23, r18
+        subfic r23, r18, 0
+        addc   r23, r18, r19
+        subfc  r23, r18, r19
+        addex  r23, r18, r19, 0
+        subf   r23, r22, r18    # fffe8080
+        neg    r23, r22         # ffffffffffffffff
+        addpcis r24, 0          # the address behind it
+        oris   r25, r22, 0xffff # ffff0001
+        xori   r25, r18, 0xffff # fffe7f7e
+        xoris  r25, r18, 0xffff # 00018081
+        andi.  r25, r18, 0xff00 # 8000
+        andis. r25, r18, 0xff00 # ff000000, with CR field 0
+        and    r26, r18, r25    # ff000000
+        andc   r26, r18, r25    # fe8081
+        or     r26, r18, r25
+        orc    r26, r18, r25
+        xor    r26, r18, r25
+        eqv    r26, r18, r25
+        nand   r26, r18, r25
+        nor    r26, r18, r25    # ffffffff00017f7e
+        rlwinm r27, r18, 8, 24, 31
+        rlwnm  r27, r18, r22, 0, 31
+        rlwimi r27, r18, 16, 0, 15
+        rldicl r27, r18, 8, 56
+        rldicr r27, r18, 32, 31
+        rldic  r27, r18, 16, 16
+        rldimi r27, r18, 0, 32
+        rldcl  r27, r18, r22, 0
+        rldcr  r27, r18, r22, 62 # 1fffd0102
+        slw    r28, r18, r22    # fffd0102
+        srw    r28, r18, r22    # 7fff4040
+        sld    r28, r18, r22
+        srd    r28, r18, r22
+        sraw   r28, r18, r22    # ffffffffffff4040
+        srawi  r28, r18, 8
+        srad   r28, r18, r22
+        sradi  r28, r19, 8      # fffffffffffffe80
+        extswsli r28, r18, 4    # ffffffffffe80810
+        extsb  r29, r18         # ffffffffffffff81
+        extsh  r29, r18         # ffffffffffff8081
+        extsw  r29, r18         # fffffffffffe8081
 here:   b      here

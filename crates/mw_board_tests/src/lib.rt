@@ -10,6 +10,8 @@ mod isa;
 #[cfg(test)]
 mod loadstore;
 #[cfg(test)]
+mod results;
+#[cfg(test)]
 mod runs;
 #[cfg(test)]
 mod storage;
