@@ -6,7 +6,7 @@ ghost use Rattle.mw_isa.specs.Places.{AreLimited, input_roles, places_in};
 use crate::inputs::{a_of, b_of};
 use mw_bits::{mask, rotl};
 use mw_decode::Insn;
-use mw_isa::{Inputs, Operands, Places, operand};
+use mw_isa::{Inputs, Operands, Places, operand_of};
 
 /// The operand at a place as a number; 0 where there is none.
 fn number_at(insn: &Insn, place: Option<u8>) -> u64
@@ -14,7 +14,7 @@ fn number_at(insn: &Insn, place: Option<u8>) -> u64
 {
     match place {
         None => 0,
-        Some(at) => operand(insn, at),
+        Some(at) => operand_of(insn, at),
     }
 }
 
