@@ -10,4 +10,5 @@ mod shift;
 mod unit;
 
 pub use op::{AluOp, AluOut};
+pub use rotate::rotl32_of;
 pub use unit::alu;

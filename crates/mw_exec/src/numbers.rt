@@ -1,9 +1,9 @@
 ghost use Rattle.std.specs.Prelude.{◌≡◌, ◌%◌, ◌^◌, ◌<◌};
-ghost use Rattle.mw_alu.specs.Bits.{rotl32_of};
 ghost use Rattle.mw_isa.specs.Execute.{a_by, b_by, c_by, left_mask, middle_mask, number_at, right_mask, word_mask};
 ghost use Rattle.mw_isa.specs.Places.{AreLimited, input_roles, places_in};
 
 use crate::inputs::{a_of, b_of};
+use mw_alu::rotl32_of;
 use mw_bits::{mask, rotl};
 use mw_decode::Insn;
 use mw_isa::{Inputs, Operands, Places, operand_of};
@@ -56,15 +56,6 @@ fn middle_mask(places: Places, insn: &Insn) -> u64
         number_at(insn, places.start) as u32,
         63 - number_at(insn, places.number) as u32,
     )
-}
-
-/// The low word, doubled, rotated to the left by `n` places (ROTL32).
-fn rotl32_of(x: u64, n: u64) -> u64
-    requires { n < 32 }
-    ensures { result ≡ rotl32_of x n }
-{
-    let low = x % 0x1_0000_0000;
-    rotl(low * 0x1_0000_0000 + low, n as u32)
 }
 
 /// The number that the unit takes as a: of addpcis the address behind it, of rlwimi and rldimi the content
