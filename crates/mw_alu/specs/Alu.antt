@@ -1,9 +1,9 @@
--- What the rows that are done in one cycle give, over whole numbers (Book I, fixed-point arithmetic, logical, rotate and
--- shift instructions). In a row's line a is the content of RA or RS, of (RA|0), or an address, CIA or NIA; b is the
--- content of RB, the number among the operands in 64 bits, or the count of a rotation; c is the mask of a rotation, or
--- the number of places of srawi, sradi and extswsli. rlwimi and rldimi have four numbers: a is rotated already, b is the
--- mask and c the old content of RA. The carry is CA, and OV of addex. A sum has all four flags, whichever of them its
--- row writes, but for addex; a signed shift to the right has CA and CA32; all other flags are false.
+-- What the rows that are done in one cycle give, over whole numbers (Book I, fixed-point arithmetic, logical, rotate,
+-- shift and byte-reverse instructions). In a row's line a is the content of RA or RS, of (RA|0), or an address, CIA or
+-- NIA; b is the content of RB, the number among the operands in 64 bits, or the count of a rotation; c is the mask of a
+-- rotation, or the number of places of srawi, sradi and extswsli. rlwimi and rldimi have four numbers: a is rotated
+-- already, b is the mask and c the old content of RA. The carry is CA, and OV of addex. A sum has all four flags,
+-- whichever of them its row writes, but for addex; a signed shift to the right has CA and CA32; all other flags are false.
 use Rattle.std.specs.Prelude.{ℕ, ◌-◌, ◌*◌, ◌/◌, ◌%◌, ◌^◌, Bool, bit_and, bit_or, bit_xor, count_ones}
 use Rattle.std.specs.Int.{w32, w64, bit_not, from_bool, leading_zeros, swap_bytes, trailing_zeros}
 use Rattle.mw_bits.specs.Fields.{rotl_of, sext_of}

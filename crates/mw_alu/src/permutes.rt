@@ -8,7 +8,7 @@ use crate::op::AluOut;
 use crate::places::{bit_at, byte_at, halfword_at};
 use crate::shift::shifted_left;
 
-/// A number with its bytes reversed (Book I, fixed-point byte-reverse instructions).
+/// A number with its bytes reversed (Book I, byte-reverse instructions).
 pub fn reversed(x: u64) -> AluOut
     ensures { result ≡ valued (swap_bytes w64 x) }
 {

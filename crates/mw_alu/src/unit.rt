@@ -17,7 +17,7 @@ use crate::shift::{
     extended_left, left, left_word, right, right_word, signed_right, signed_right_word,
 };
 
-/// What a row gives (Book I, fixed-point arithmetic, logical, rotate and shift instructions).
+/// What a row gives (Book I, fixed-point arithmetic, logical, rotate, shift and byte-reverse instructions).
 ///
 /// - `a` is the content of RA or RS, 0 for (RA|0) with register 0, or an address: that of the instruction
 ///   for paddi with R=1, the next one for addpcis. For rlwimi and rldimi it is rotated already.
