@@ -1,1 +1,5 @@
 pub mod ShiftLemmas
+pub mod Parts
+pub mod OnesLemmas
+pub mod Gathered
+pub mod ParityLemmas

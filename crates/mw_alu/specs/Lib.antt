@@ -1,3 +1,6 @@
 pub mod Sums
 pub mod Bits
+pub mod Places
+pub mod Counts
+pub mod Permutes
 pub mod Alu

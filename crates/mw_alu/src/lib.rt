@@ -2,9 +2,12 @@
 #![tactic(auto)]
 
 mod adder;
+mod counts;
 mod extend;
 mod logic;
 mod op;
+mod permutes;
+mod places;
 mod rotate;
 mod shift;
 mod unit;

@@ -107,6 +107,44 @@ pub enum AluOp {
     Extsh,
     /// extsw: the signed low word of a.
     Extsw,
+    /// cntlzw: how many zeros the low word of a has at the left.
+    Cntlzw,
+    /// cntlzd: how many zeros a has at the left.
+    Cntlzd,
+    /// cnttzw: how many zeros the low word of a has at the right.
+    Cnttzw,
+    /// cnttzd: how many zeros a has at the right.
+    Cnttzd,
+    /// cntlzdm: of the bits of a where b has ones, how many are 0 before the first 1 from the left.
+    Cntlzdm,
+    /// cnttzdm: of the bits of a where b has ones, how many are 0 before the first 1 from the right.
+    Cnttzdm,
+    /// popcntb: how many ones each byte of a has.
+    Popcntb,
+    /// popcntw: how many ones each word of a has.
+    Popcntw,
+    /// popcntd: how many ones a has.
+    Popcntd,
+    /// prtyw: the exclusive or of the last bits of the bytes of each word of a.
+    Prtyw,
+    /// prtyd: the exclusive or of the last bits of the bytes of a.
+    Prtyd,
+    /// brh: the bytes reversed in each halfword of a.
+    Brh,
+    /// brw: the bytes reversed in each word of a.
+    Brw,
+    /// brd: the bytes of a reversed.
+    Brd,
+    /// pdepd: the rightmost bits of a, in order, where b has ones.
+    Pdepd,
+    /// pextd: the bits of a where b has ones, in order, at the right.
+    Pextd,
+    /// cfuged: the bits of a where b has zeros, in order, and to their right the others, in order.
+    Cfuged,
+    /// bpermd: the eight bits of b whose numbers the bytes of a have.
+    Bpermd,
+    /// cmpb: ones in each byte in which a and b agree.
+    Cmpb,
 }
 
 /// What such a row gives.

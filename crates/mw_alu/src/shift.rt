@@ -9,7 +9,7 @@ use mw_bits::sext;
 
 /// What 64 bits keep of a number that is shifted left: nothing from 64 places on.
 #[tactic(auto, using(crate::proofs::ShiftLemmas::shl_out))]
-fn shifted_left(x: u64, places: u64) -> u64
+pub fn shifted_left(x: u64, places: u64) -> u64
     ensures { result ≡ x * 2 ^ places % 2 ^ 64 }
 {
     if places < 64 { x << places } else { 0 }
@@ -17,7 +17,7 @@ fn shifted_left(x: u64, places: u64) -> u64
 
 /// What is left of a number that is shifted right: nothing from 64 places on.
 #[tactic(auto, using(crate::proofs::ShiftLemmas::shr_out))]
-fn shifted_right(x: u64, places: u64) -> u64
+pub fn shifted_right(x: u64, places: u64) -> u64
     ensures { result ≡ x / 2 ^ places }
 {
     if places < 64 { x >> places } else { 0 }
@@ -33,7 +33,7 @@ fn signed_shifted(x: i64, places: u64) -> u64
 
 /// What a shift to the right takes away of a number: all of it from 64 places on.
 #[tactic(auto, using(crate::proofs::ShiftLemmas::low_bits, crate::proofs::ShiftLemmas::all_bits))]
-fn shifted_out(x: u64, places: u64) -> u64
+pub fn shifted_out(x: u64, places: u64) -> u64
     ensures { result ≡ x % 2 ^ places }
 {
     if places < 64 {

@@ -2,15 +2,22 @@ ghost use Rattle.std.specs.Prelude.{◌≡◌};
 ghost use Rattle.mw_alu.specs.Alu.{alu_of};
 
 use crate::adder::{sum_by_ov, sum_of};
+use crate::counts::{
+    cntlzdm_of, cnttzdm_of, ones, popcntb_of, popcntw_of, prtyd_of, prtyw_of, zeros_left,
+    zeros_left_word, zeros_right, zeros_right_word,
+};
 use crate::extend::extended;
-use crate::logic::{and, eqv, nand, nor, or, xor};
+use crate::logic::{and, eqv, nand, nor, or, valued, xor};
 use crate::op::{AluOp, AluOut};
+use crate::permutes::{
+    bpermd_of, brh_of, brw_of, cfuged_of, cmpb_of, pdepd_of, pextd_of, reversed,
+};
 use crate::rotate::{inserted, rotated, rotated_word};
 use crate::shift::{
     extended_left, left, left_word, right, right_word, signed_right, signed_right_word,
 };
 
-/// What a row gives (Book I, fixed-point arithmetic, logical, rotate and shift instructions).
+/// What a row gives (Book I, fixed-point arithmetic, logical, rotate, shift and byte-reverse instructions).
 ///
 /// - `a` is the content of RA or RS, 0 for (RA|0) with register 0, or an address: that of the instruction
 ///   for paddi with R=1, the next one for addpcis. For rlwimi and rldimi it is rotated already.
@@ -66,5 +73,24 @@ pub fn alu(op: AluOp, a: u64, b: u64, c: u64, carry: bool) -> AluOut
         AluOp::Extsb => extended(a, 8),
         AluOp::Extsh => extended(a, 16),
         AluOp::Extsw => extended(a, 32),
+        AluOp::Cntlzw => zeros_left_word(a),
+        AluOp::Cntlzd => zeros_left(a),
+        AluOp::Cnttzw => zeros_right_word(a),
+        AluOp::Cnttzd => zeros_right(a),
+        AluOp::Cntlzdm => valued(cntlzdm_of(a, b)),
+        AluOp::Cnttzdm => valued(cnttzdm_of(a, b)),
+        AluOp::Popcntb => valued(popcntb_of(a)),
+        AluOp::Popcntw => valued(popcntw_of(a)),
+        AluOp::Popcntd => ones(a),
+        AluOp::Prtyw => valued(prtyw_of(a)),
+        AluOp::Prtyd => valued(prtyd_of(a)),
+        AluOp::Brh => valued(brh_of(a)),
+        AluOp::Brw => valued(brw_of(a)),
+        AluOp::Brd => reversed(a),
+        AluOp::Pdepd => valued(pdepd_of(a, b)),
+        AluOp::Pextd => valued(pextd_of(a, b)),
+        AluOp::Cfuged => valued(cfuged_of(a, b)),
+        AluOp::Bpermd => valued(bpermd_of(a, b)),
+        AluOp::Cmpb => valued(cmpb_of(a, b)),
     }
 }
