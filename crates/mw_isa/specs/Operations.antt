@@ -1,7 +1,7 @@
 -- What each row of the instruction table does, keyed by the row's name.
 use Rattle.std.specs.Prelude.{ℕ, true, false, List, [], ◌∷◌, map, codes}
 use Rattle.mw_alu.specs.declared.op.AluOp.{AluOp}
-use Rattle.mw_alu.specs.declared.op.AluOp.TheVariants.{Addi, Addis, Addic, Subfic, Addpcis, Paddi, Add, Subf, Neg, Addc, Subfc, Adde, Subfe, Addme, Subfme, Addze, Subfze, Addex, Ori, Oris, Xori, Xoris, Andi, Andis, And, Andc, Or, Orc, Xor, Eqv, Nand, Nor, Rlwinm, Rlwnm, Rlwimi, Rldicl, Rldicr, Rldic, Rldimi, Rldcl, Rldcr, Slw, Srw, Sld, Srd, Sraw, Srawi, Srad, Sradi, Extswsli, Extsb, Extsh, Extsw}
+use Rattle.mw_alu.specs.declared.op.AluOp.TheVariants.{Addi, Addis, Addic, Subfic, Addpcis, Paddi, Add, Subf, Neg, Addc, Subfc, Adde, Subfe, Addme, Subfme, Addze, Subfze, Addex, Ori, Oris, Xori, Xoris, Andi, Andis, And, Andc, Or, Orc, Xor, Eqv, Nand, Nor, Rlwinm, Rlwnm, Rlwimi, Rldicl, Rldicr, Rldic, Rldimi, Rldcl, Rldcr, Slw, Srw, Sld, Srd, Sraw, Srawi, Srad, Sradi, Extswsli, Extsb, Extsh, Extsw, Cntlzw, Cntlzd, Cnttzw, Cnttzd, Cntlzdm, Cnttzdm, Popcntb, Popcntw, Popcntd, Prtyw, Prtyd, Brh, Brw, Brd, Pdepd, Pextd, Cfuged, Bpermd, Cmpb}
 use Rattle.mw_isa.specs.declared.memory.MemWhat.{MemWhat}
 use Rattle.mw_isa.specs.declared.memory.MemWhat.TheVariants.{Load, Store, Conditional, Zero, Clean, Icbi}
 use Rattle.mw_isa.specs.declared.operation.Operation.{Operation}
@@ -172,25 +172,25 @@ operation_lines =
     ∷ on (codes "extsb") (alu Extsb One NoCarry Plain)
     ∷ on (codes "extsh") (alu Extsh One NoCarry Plain)
     ∷ on (codes "extsw") (alu Extsw One NoCarry Plain)
-    ∷ on (codes "cntlzw") Later
-    ∷ on (codes "cntlzd") Later
-    ∷ on (codes "cnttzw") Later
-    ∷ on (codes "cnttzd") Later
-    ∷ on (codes "cntlzdm") Later
-    ∷ on (codes "cnttzdm") Later
-    ∷ on (codes "popcntb") Later
-    ∷ on (codes "popcntw") Later
-    ∷ on (codes "popcntd") Later
-    ∷ on (codes "prtyw") Later
-    ∷ on (codes "prtyd") Later
-    ∷ on (codes "brh") Later
-    ∷ on (codes "brw") Later
-    ∷ on (codes "brd") Later
-    ∷ on (codes "pdepd") Later
-    ∷ on (codes "pextd") Later
-    ∷ on (codes "cfuged") Later
-    ∷ on (codes "bpermd") Later
-    ∷ on (codes "cmpb") Later
+    ∷ on (codes "cntlzw") (alu Cntlzw One NoCarry Plain)
+    ∷ on (codes "cntlzd") (alu Cntlzd One NoCarry Plain)
+    ∷ on (codes "cnttzw") (alu Cnttzw One NoCarry Plain)
+    ∷ on (codes "cnttzd") (alu Cnttzd One NoCarry Plain)
+    ∷ on (codes "cntlzdm") (alu Cntlzdm Two NoCarry Plain)
+    ∷ on (codes "cnttzdm") (alu Cnttzdm Two NoCarry Plain)
+    ∷ on (codes "popcntb") (alu Popcntb One NoCarry Plain)
+    ∷ on (codes "popcntw") (alu Popcntw One NoCarry Plain)
+    ∷ on (codes "popcntd") (alu Popcntd One NoCarry Plain)
+    ∷ on (codes "prtyw") (alu Prtyw One NoCarry Plain)
+    ∷ on (codes "prtyd") (alu Prtyd One NoCarry Plain)
+    ∷ on (codes "brh") (alu Brh One NoCarry Plain)
+    ∷ on (codes "brw") (alu Brw One NoCarry Plain)
+    ∷ on (codes "brd") (alu Brd One NoCarry Plain)
+    ∷ on (codes "pdepd") (alu Pdepd Two NoCarry Plain)
+    ∷ on (codes "pextd") (alu Pextd Two NoCarry Plain)
+    ∷ on (codes "cfuged") (alu Cfuged Two NoCarry Plain)
+    ∷ on (codes "bpermd") (alu Bpermd Two NoCarry Plain)
+    ∷ on (codes "cmpb") (alu Cmpb Two NoCarry Plain)
     ∷ on (codes "cmp") Later
     ∷ on (codes "cmpl") Later
     ∷ on (codes "tw") Later

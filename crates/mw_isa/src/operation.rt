@@ -237,25 +237,25 @@ static OPERATIONS: [Operation; 224] = [
     alu!(Extsb, One, NoCarry, Plain), // extsb
     alu!(Extsh, One, NoCarry, Plain), // extsh
     alu!(Extsw, One, NoCarry, Plain), // extsw
-    Operation::Later, // cntlzw
-    Operation::Later, // cntlzd
-    Operation::Later, // cnttzw
-    Operation::Later, // cnttzd
-    Operation::Later, // cntlzdm
-    Operation::Later, // cnttzdm
-    Operation::Later, // popcntb
-    Operation::Later, // popcntw
-    Operation::Later, // popcntd
-    Operation::Later, // prtyw
-    Operation::Later, // prtyd
-    Operation::Later, // brh
-    Operation::Later, // brw
-    Operation::Later, // brd
-    Operation::Later, // pdepd
-    Operation::Later, // pextd
-    Operation::Later, // cfuged
-    Operation::Later, // bpermd
-    Operation::Later, // cmpb
+    alu!(Cntlzw, One, NoCarry, Plain), // cntlzw
+    alu!(Cntlzd, One, NoCarry, Plain), // cntlzd
+    alu!(Cnttzw, One, NoCarry, Plain), // cnttzw
+    alu!(Cnttzd, One, NoCarry, Plain), // cnttzd
+    alu!(Cntlzdm, Two, NoCarry, Plain), // cntlzdm
+    alu!(Cnttzdm, Two, NoCarry, Plain), // cnttzdm
+    alu!(Popcntb, One, NoCarry, Plain), // popcntb
+    alu!(Popcntw, One, NoCarry, Plain), // popcntw
+    alu!(Popcntd, One, NoCarry, Plain), // popcntd
+    alu!(Prtyw, One, NoCarry, Plain), // prtyw
+    alu!(Prtyd, One, NoCarry, Plain), // prtyd
+    alu!(Brh, One, NoCarry, Plain), // brh
+    alu!(Brw, One, NoCarry, Plain), // brw
+    alu!(Brd, One, NoCarry, Plain), // brd
+    alu!(Pdepd, Two, NoCarry, Plain), // pdepd
+    alu!(Pextd, Two, NoCarry, Plain), // pextd
+    alu!(Cfuged, Two, NoCarry, Plain), // cfuged
+    alu!(Bpermd, Two, NoCarry, Plain), // bpermd
+    alu!(Cmpb, Two, NoCarry, Plain), // cmpb
     Operation::Later, // cmp
     Operation::Later, // cmpl
     Operation::Later, // tw
