@@ -28,7 +28,7 @@ fn with_carries(written: bool, out: AluOut, bits: XerBits) -> XerBits
 }
 
 /// The bits with the overflows of a result, where they are written.
-fn with_overflows(written: bool, out: AluOut, bits: XerBits) -> XerBits
+pub fn with_overflows(written: bool, out: AluOut, bits: XerBits) -> XerBits
     ensures { result ≡ with_overflows written out bits }
 {
     if written {
@@ -43,7 +43,7 @@ fn with_overflows(written: bool, out: AluOut, bits: XerBits) -> XerBits
 }
 
 /// The bits with SO set where OE is asked and there is an overflow.
-fn with_summary(oe: bool, out: AluOut, bits: XerBits) -> XerBits
+pub fn with_summary(oe: bool, out: AluOut, bits: XerBits) -> XerBits
     ensures { result ≡ with_summary oe out bits }
 {
     XerBits {
@@ -99,7 +99,7 @@ fn result_at(place: Option<u8>, insn: &Insn, value: u64) -> ArrayVec<Target, 8>
 }
 
 /// Adds XER with its bits, where it is written.
-fn push_xer(targets: &mut ArrayVec<Target, 8>, written: bool, bits: XerBits)
+pub fn push_xer(targets: &mut ArrayVec<Target, 8>, written: bool, bits: XerBits)
     requires { length targets.old.items < 8 }
     ensures items { targets.new.items ≡ targets.old.items ++ xer_target written bits }
     ensures few { length targets.new.items ≤ length targets.old.items + 1 }
@@ -113,7 +113,7 @@ fn push_xer(targets: &mut ArrayVec<Target, 8>, written: bool, bits: XerBits)
 }
 
 /// Adds CR field 0 with the sign of a result and SO, where it is written.
-fn push_field(targets: &mut ArrayVec<Target, 8>, written: bool, value: u64, so: bool)
+pub fn push_field(targets: &mut ArrayVec<Target, 8>, written: bool, value: u64, so: bool)
     requires { length targets.old.items < 8 }
     ensures { targets.new.items ≡ targets.old.items ++ field_target written value so }
 {

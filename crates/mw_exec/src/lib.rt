@@ -4,11 +4,14 @@
 mod arithmetic;
 mod branching;
 mod ending;
+mod finish;
 mod inputs;
+mod long;
 mod numbers;
 mod outcome;
 mod storage;
 mod unit;
 
+pub use finish::{finished, product_out, quotient_out};
 pub use outcome::{behind_insn, next_of};
 pub use unit::{exec, is_built, is_built_row};

@@ -30,6 +30,7 @@ pub fn next_of(insn: &Insn, outcome: &Outcome, regs: &Regs, cia: u64) -> u64
     let _ = regs;
     match outcome {
         Outcome::Done { next, .. } => *next,
+        Outcome::Long(_) => behind_insn(insn, cia),
         Outcome::Memory(_) => behind_insn(insn, cia),
     }
 }

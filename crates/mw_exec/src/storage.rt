@@ -5,7 +5,7 @@ ghost use Rattle.mw_isa.specs.Places.{HasRegisters, places_of};
 use crate::inputs::{a_of, b_of};
 use mw_decode::Insn;
 use mw_isa::{
-    MemOp, Operands, Operation, Outcome, Places, StorageRow, loaded_of, places_of, updated_of,
+    MemOp, Operands, Operation, Outcome, Places, StorageRow, places_of, updated_of, written_of,
 };
 
 /// The effective address.
@@ -27,7 +27,7 @@ pub fn storage_of(row: StorageRow, insn: &Insn, operands: &Operands, cia: u64) -
         ea: effective_of(places, insn, operands, cia),
         len: row.len,
         value: operands.c,
-        to: loaded_of(insn, places),
+        to: written_of(insn, places),
         update: updated_of(insn, row, places),
     })
 }

@@ -2,10 +2,12 @@ ghost use Rattle.std.specs.Prelude.{◌≡◌, true, Some};
 ghost use Rattle.mw_decode.specs.Decode.{IsInsn};
 ghost use Rattle.mw_isa.specs.Storage.{IsSized, OnMemory};
 ghost use Rattle.mw_isa.specs.Execute.{exec_of, is_built_row};
-ghost use Rattle.mw_isa.specs.Step.{is_built};
+ghost use Rattle.mw_isa.specs.Long.{IsStarted};
+ghost use Rattle.mw_isa.specs.Step.{OnLong, is_built};
 
 use crate::arithmetic::arithmetic_of;
 use crate::branching::branch_of;
+use crate::long::{product_by, quotient_by};
 use crate::outcome::{behind_insn, branch_to};
 use crate::storage::storage_of;
 use mw_decode::Insn;
@@ -18,6 +20,8 @@ pub fn is_built_row(insn: &Insn) -> bool
 {
     match operation_at(insn.row) {
         Operation::Alu(_) => true,
+        Operation::Product(_) => true,
+        Operation::Quotient(_) => true,
         Operation::Branch(_) => true,
         Operation::Storage(_) => true,
         Operation::Hint => true,
@@ -42,9 +46,12 @@ pub fn exec(insn: &Insn, operands: &Operands, cia: u64) -> Outcome
     requires built { is_built_row insn.now ≡ true }
     ensures outcome { exec_of insn.now operands.now cia ≡ Some result }
     ensures sized { OnMemory IsSized result }
+    ensures started { OnLong IsStarted result }
 {
     match operation_at(insn.row) {
         Operation::Alu(row) => arithmetic_of(row, insn, operands, cia),
+        Operation::Product(row) => Outcome::Long(product_by(row, insn, operands)),
+        Operation::Quotient(row) => Outcome::Long(quotient_by(row, insn, operands)),
         Operation::Branch(row) => branch_of(row, insn, operands, cia),
         Operation::Storage(row) => storage_of(row, insn, operands, cia),
         Operation::Hint => branch_to(behind_insn(insn, cia)),

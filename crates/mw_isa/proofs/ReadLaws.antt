@@ -9,9 +9,12 @@ use Rattle.mw_isa.specs.declared.memory.MemWhat.TheVariants.{Load, Store, Condit
 use Rattle.mw_isa.specs.declared.operation.BranchRow.TheVariants.{B}
 use Rattle.mw_isa.specs.declared.operation.Ending.{Ending}
 use Rattle.mw_isa.specs.declared.operation.Operation.{Operation}
-use Rattle.mw_isa.specs.declared.operation.Operation.TheVariants.{Alu, Branch, Storage, Hint, Later}
+use Rattle.mw_isa.specs.declared.operation.Operation.TheVariants.{Alu, Product, Quotient, Branch, Storage, Hint, Later}
 use Rattle.mw_isa.specs.declared.outcome.Operands.{Operands}
+use Rattle.mw_isa.specs.declared.long.LongOp.{LongOp}
+use Rattle.mw_isa.specs.declared.long.LongOp.TheVariants.{Mul, Div}
 use Rattle.mw_isa.specs.declared.outcome.Outcome.{Outcome}
+use Rattle.mw_isa.specs.declared.outcome.Outcome.TheVariants.{Long}
 use Rattle.mw_isa.specs.declared.place.Places.{Places}
 use Rattle.mw_isa.specs.declared.slot.Slot.{Slot}
 use Rattle.mw_isa.specs.declared.slot.Slot.TheVariants.{Gpr, CrField, Xer, Lr, Ctr, Tar}
@@ -20,12 +23,13 @@ use Rattle.mw_isa.specs.declared.xer.XerBits.{XerBits}
 use Rattle.mw_isa.specs.Endings.{field_if, writes_field, writes_xer, xer_if}
 use Rattle.mw_isa.specs.Xer.{bits_after, xer_bits}
 use Rattle.mw_isa.specs.Storage.{access_targets, update_targets}
-use Rattle.mw_isa.specs.Execute.{result_at, xer_target, field_target, ended, out_of, effect_of, arithmetic_of, branch_of, storage_of, branch_to, behind_insn, exec_of}
+use Rattle.mw_isa.specs.Execute.{end_with, ended, out_of, effect_of, arithmetic_of, product_by, quotient_by, branch_of, storage_of, branch_to, behind_insn, exec_of}
+use Rattle.mw_isa.specs.Finish.{bits_behind, finished}
 use Rattle.mw_isa.specs.Operations.{operations}
 use Rattle.mw_isa.specs.Places.{places_of}
 use Rattle.mw_isa.specs.Reads.{Agree, fields_of, has_slot, held, no_sources, operands_at, operands_by, operands_in, part_of, read_slots, reads_by, reads_of, slots_in, sources_at, special_reads, register_at}
 use Rattle.mw_isa.specs.Slots.{bits_of, bits_with, same_slot, slots_of}
-use Rattle.mw_isa.specs.Targets.{access_slots, ending_slots, targets_by, targets_of, update_slots, written_slots}
+use Rattle.mw_isa.specs.Targets.{access_slots, ending_slots, long_slots, targets_by, targets_of, update_slots, written_slots}
 use Rattle.mw_isa.proofs.SlotLaws.{same_slot-is}
 
 -- the bits of a list that begins with a register, if there is one
@@ -112,7 +116,7 @@ unfolding reads_of operands_in
 operands_in-agree insn view other msr agree = operands-agree (slice_get operations insn.row) insn view other msr agree
 
 -- the registers of a result, of XER and of CR field 0, each where it is written
-ended-by : (slot : Option Slot) (value : ℕ) (xer field : Bool) (bits : XerBits) → slots_of (result_at slot value ++ xer_target xer bits ++ field_target field value bits.so) ≡ slots_in slot ++ slots_in (xer_if xer) ++ slots_in (field_if field)
+ended-by : (slot : Option Slot) (value : ℕ) (xer field : Bool) (bits : XerBits) → slots_of (end_with slot value xer field bits) ≡ slots_in slot ++ slots_in (xer_if xer) ++ slots_in (field_if field)
 ended-by None value true true bits = refl
 ended-by None value true false bits = refl
 ended-by None value false true bits = refl
@@ -131,6 +135,12 @@ effect-slots : (operation : Operation) (insn : Insn) (o : Operands) (cia : ℕ) 
 effect-slots (Alu row) insn o cia outcome e =
     let is : arithmetic_of row insn o cia ≡ outcome = cc in
     ap written_slots (sym is) ∙ ended-slots row.ending (places_of (Alu row)) insn (out_of row insn o cia) o.xer
+effect-slots (Product row) insn o cia outcome e =
+    let is : Long (product_by row insn o) ≡ outcome = cc in
+    ap written_slots (sym is)
+effect-slots (Quotient row) insn o cia outcome e =
+    let is : Long (quotient_by row insn o) ≡ outcome = cc in
+    ap written_slots (sym is)
 effect-slots (Branch B) insn o cia outcome e =
     let is : branch_of B insn o cia ≡ outcome = cc in
     ap written_slots (sym is)
@@ -150,6 +160,11 @@ slots-by (Some operation) insn o cia outcome e = effect-slots operation insn o c
 pub exec-targets : (insn : Insn) (o : Operands) (cia : ℕ) (outcome : Outcome) → exec_of insn o cia ≡ Some outcome → written_slots outcome ≡ targets_of insn
 unfolding exec_of targets_of
 exec-targets insn o cia outcome e = slots-by (slice_get operations insn.row) insn o cia outcome e
+
+-- a long operation writes these registers, whatever its unit answers
+pub finished-slots : (op : LongOp) (out : AluOut) (xer : ℕ) → slots_of (finished op out xer) ≡ long_slots op
+finished-slots (Mul unit high word to oe rc) out xer = ended-by (Some (Gpr to)) out.value oe rc (bits_behind oe out (xer_bits xer))
+finished-slots (Div unit rest word to oe rc) out xer = ended-by (Some (Gpr to)) out.value oe rc (bits_behind oe out (xer_bits xer))
 
 update-slots : (op : MemOp) (update : Option ℕ) → slots_of (update_targets op update) ≡ update_slots update
 update-slots op None = refl

@@ -8,7 +8,7 @@ use Rattle.mw_isa.specs.declared.memory.MemOp.{MemOp}
 use Rattle.mw_isa.specs.declared.memory.MemWhat.{MemWhat}
 use Rattle.mw_isa.specs.declared.memory.MemWhat.TheVariants.{Load, Store, Conditional, Zero, Clean, Icbi}
 use Rattle.mw_isa.specs.declared.outcome.Outcome.{Outcome}
-use Rattle.mw_isa.specs.declared.outcome.Outcome.TheVariants.{Done, Memory}
+use Rattle.mw_isa.specs.declared.outcome.Outcome.TheVariants.{Done, Long, Memory}
 use Rattle.mw_isa.specs.declared.pages.Stretches.{Stretches}
 use Rattle.mw_isa.specs.declared.slot.Slot.{Slot}
 use Rattle.mw_isa.specs.State.{State}
@@ -21,7 +21,7 @@ use Rattle.mw_soc.specs.DeviceData.{DeviceData}
 use Rattle.mw_soc.specs.Devices.{cycle_of}
 use Rattle.mw_soc.proofs.Laws.{cycle-device_load, cycle-device_store}
 use Rattle.mw_isa.specs.Storage.{accessed, is_reserved, stores, devices_loaded, devices_stored}
-use Rattle.mw_isa.specs.Step.{IsKnown, Raised, Placed, UnderWay, Stepped, step, stepped, under_way, insn_in, insn_of, decoded_of, outcome_of, placed_of, written, finished, after_of, raises_of, end_raises, builds, builds_by, is_built, is_built_insn, is_built_outcome, earlier, words_raise}
+use Rattle.mw_isa.specs.Step.{IsKnown, Raised, Placed, UnderWay, Stepped, step, stepped, under_way, insn_in, insn_of, decoded_of, outcome_of, placed_of, written, state_behind, after_of, raises_of, end_raises, builds, builds_by, is_built, is_built_insn, is_built_outcome, earlier, words_raise}
 use Rattle.mw_isa.specs.Replay.{acted, retires, same_suffix}
 
 -- what an instruction carries that comes to an outcome
@@ -95,6 +95,7 @@ insn_of-whole words what whole is = ap₂ (λ (b : Bool) (w : Decoded). cond b N
 -- no part of the chain raises anything yet
 end_raises-none : (outcome : Outcome) (placed : Option Placed) (msr : ℕ) → end_raises outcome placed msr ≡ None
 end_raises-none (Done targets next) placed msr = refl
+end_raises-none (Long op) placed msr = refl
 end_raises-none (Memory op) None msr = refl
 end_raises-none (Memory op) (Some placed) msr = refl
 
@@ -113,7 +114,7 @@ unfolding step
 step-calm state = raises_of-none (under_way state) (get_slot state.regs) state.regs.msr
 
 -- what an instruction carries that raises nothing leaves what its outcome leaves
-pub after-known : (words : Fetched) (insn : Insn) (outcome : Outcome) (state : State) → IsKnown words insn outcome state → (step state).after ≡ finished (Some insn) (Some outcome) (placed_of outcome state.regs.msr) state.regs.cia state
+pub after-known : (words : Fetched) (insn : Insn) (outcome : Outcome) (state : State) → IsKnown words insn outcome state → (step state).after ≡ state_behind (Some insn) (Some outcome) (placed_of outcome state.regs.msr) state.regs.cia state
 after-known words insn outcome state k =
     ap (λ (s : Stepped). s.after) (step-known words insn outcome state k)
     ∙ ap (λ (trap : Option Raised). after_of trap (known words insn outcome state) state) (raises_of-none (known words insn outcome state) (get_slot state.regs) state.regs.msr)
@@ -166,19 +167,20 @@ accessed-cycle op at state =
 -- an outcome leaves it
 written-cycle : (outcome : Outcome) (placed : Option Placed) (state : State) → cycle_of (written outcome placed state).devices ≡ cycle_of state.devices
 written-cycle (Done targets next) placed state = refl
+written-cycle (Long op) placed state = refl
 written-cycle (Memory op) None state = refl
 written-cycle (Memory op) (Some (Err fault)) state = refl
 written-cycle (Memory op) (Some (Ok at)) state = accessed-cycle op at state
 
-finished-cycle : (insn : Option Insn) (outcome : Option Outcome) (placed : Option Placed) (at : ℕ) (state : State) → cycle_of (finished insn outcome placed at state).devices ≡ cycle_of state.devices
-finished-cycle None outcome placed at state = refl
-finished-cycle (Some insn) None placed at state = refl
-finished-cycle (Some insn) (Some outcome) placed at state = written-cycle outcome placed state
+behind-cycle : (insn : Option Insn) (outcome : Option Outcome) (placed : Option Placed) (at : ℕ) (state : State) → cycle_of (state_behind insn outcome placed at state).devices ≡ cycle_of state.devices
+behind-cycle None outcome placed at state = refl
+behind-cycle (Some insn) None placed at state = refl
+behind-cycle (Some insn) (Some outcome) placed at state = written-cycle outcome placed state
 
 -- and so does the instruction
 pub after_of-cycle : (trap : Option Raised) (it : UnderWay) (state : State) → cycle_of (after_of trap it state).devices ≡ cycle_of state.devices
 after_of-cycle (Some raised) it state = refl
-after_of-cycle None it state = finished-cycle it.insn it.outcome it.placed it.cia state
+after_of-cycle None it state = behind-cycle it.insn it.outcome it.placed it.cia state
 
 -- a step leaves the devices' cycle
 pub step-cycle : (state : State) → cycle_of (step state).after.devices ≡ cycle_of state.devices

@@ -3,7 +3,7 @@ use Rattle.std.proofs.Common.{◌≡◌, ℕ, zero, suc, Bool, true, ◌&&◌, L
 use Rattle.std.proofs.lemmas.Bool.{and_parts}
 use Rattle.mw_isa.specs.declared.memory.MemWhat.{MemWhat}
 use Rattle.mw_isa.specs.declared.operation.Operation.{Operation}
-use Rattle.mw_isa.specs.declared.operation.Operation.TheVariants.{Alu, Branch, Storage, Hint, Later}
+use Rattle.mw_isa.specs.declared.operation.Operation.TheVariants.{Alu, Product, Quotient, Branch, Storage, Hint, Later}
 use Rattle.mw_isa.specs.declared.operation.StorageRow.{StorageRow}
 use Rattle.mw_isa.specs.Operations.{operations, operation_lines}
 use Rattle.mw_isa.specs.declared.memory.MemOp.{MemOp}
@@ -14,6 +14,8 @@ use Rattle.mw_isa.specs.Storage.{is_sized_by, accessed, accessed_as}
 -- the length of an operation's access, if it has one, is one of its lengths
 abbrev sized_operation : Operation → Bool
 sized_operation (Alu row) = true
+sized_operation (Product row) = true
+sized_operation (Quotient row) = true
 sized_operation (Branch row) = true
 sized_operation (Storage row) = is_sized_by row.what row.len
 sized_operation Hint = true

@@ -1,6 +1,6 @@
 -- What an arithmetic row reads and writes beside its operands and its result: XER and CR field 0, by its ending and by what
 -- OE and Rc of the instruction ask (Book I, fixed-point exception register and condition register).
-use Rattle.std.specs.Prelude.{ℕ, Bool, true, false, ◌||◌, if◌then◌else◌, Option, Some, None}
+use Rattle.std.specs.Prelude.{Bool, true, false, ◌||◌, if◌then◌else◌, Option, Some, None}
 use Rattle.mw_decode.specs.declared.insn.Insn.{Insn}
 use Rattle.mw_isa.specs.declared.operation.AluRow.{AluRow}
 use Rattle.mw_isa.specs.declared.operation.Carry.{Carry}
@@ -55,6 +55,10 @@ takes_carry Ov = true
 -- XER is read: for the carry; for what is kept of it where a part is written; for SO, which CR field 0 takes
 abbrev pub reads_xer : AluRow → Insn → Bool
 reads_xer row insn = takes_carry row.carry || (writes_xer row.ending insn || writes_field row.ending insn)
+
+-- XER is read by a product or a quotient: with OE for what is kept of it; with Rc for SO, which CR field 0 takes
+abbrev pub long_reads_xer : Insn → Bool
+long_reads_xer insn = insn.oe || insn.rc
 
 -- XER, where it is asked
 abbrev pub xer_if : Bool → Option Slot

@@ -7,27 +7,34 @@ use Rattle.mw_alu.specs.Alu.{alu_of}
 use Rattle.mw_alu.specs.Bits.{rotl32_of}
 use Rattle.mw_bits.specs.Fields.{mask_of, rotl_of}
 use Rattle.mw_decode.specs.declared.insn.Insn.{Insn}
+use Rattle.mw_muldiv.specs.Division.{Division}
+use Rattle.mw_muldiv.specs.Multiplication.{Multiplication}
 use Rattle.mw_tables.specs.Matching.{has_prefix}
 use Rattle.mw_isa.specs.declared.operation.Operation.{Operation}
-use Rattle.mw_isa.specs.declared.operation.Operation.TheVariants.{Alu, Branch, Storage, Hint, Later}
+use Rattle.mw_isa.specs.declared.operation.Operation.TheVariants.{Alu, Product, Quotient, Branch, Storage, Hint, Later}
 use Rattle.mw_isa.specs.declared.operation.AluRow.{AluRow}
 use Rattle.mw_isa.specs.declared.operation.Carry.{Carry}
 use Rattle.mw_isa.specs.declared.operation.Carry.TheVariants.{NoCarry, Ca, Ov}
 use Rattle.mw_isa.specs.declared.operation.Ending.{Ending}
 use Rattle.mw_isa.specs.declared.operation.Inputs.{Inputs}
 use Rattle.mw_isa.specs.declared.operation.Inputs.TheVariants.{Next, WordShift, Shift, WordMask, WordMaskBy, WordInsert, Left, Right, Middle, Insert, LeftBy, RightBy}
+use Rattle.mw_isa.specs.declared.long.LongOp.{LongOp}
+use Rattle.mw_isa.specs.declared.long.LongOp.TheVariants.{Mul, Div}
+use Rattle.mw_isa.specs.declared.operation.ProductRow.{ProductRow}
+use Rattle.mw_isa.specs.declared.operation.QuotientRow.{QuotientRow}
 use Rattle.mw_isa.specs.declared.operation.StorageRow.{StorageRow}
 use Rattle.mw_isa.specs.declared.operation.BranchRow.{BranchRow}
 use Rattle.mw_isa.specs.declared.operation.BranchRow.TheVariants.{B}
 use Rattle.mw_isa.specs.declared.outcome.Operands.{Operands}
 use Rattle.mw_isa.specs.declared.outcome.Outcome.{Outcome}
-use Rattle.mw_isa.specs.declared.outcome.Outcome.TheVariants.{Done, Memory}
+use Rattle.mw_isa.specs.declared.outcome.Outcome.TheVariants.{Done, Long, Memory}
 use Rattle.mw_isa.specs.declared.outcome.Target.{Target}
 use Rattle.mw_isa.specs.declared.place.Places.{Places}
 use Rattle.mw_isa.specs.declared.slot.Slot.{Slot}
 use Rattle.mw_isa.specs.declared.slot.Slot.TheVariants.{CrField, Xer}
 use Rattle.mw_isa.specs.declared.xer.XerBits.{XerBits}
 use Rattle.mw_isa.specs.Fetch.{behind}
+use Rattle.mw_isa.specs.Long.{added_by, dividend_by, divides_words, factor_in}
 use Rattle.mw_isa.specs.Operations.{operations}
 use Rattle.mw_isa.specs.Places.{places_of, operand_of}
 use Rattle.mw_isa.specs.Reads.{register_at}
@@ -120,11 +127,14 @@ xer_target written bits = if written then known Xer (xer_of bits) ∷ [] else []
 abbrev pub field_target : Bool → ℕ → Bool → List Target
 field_target written value so = if written then known (CrField 0) (result_field value so) ∷ [] else []
 
--- what is written at the end of an arithmetic row, in order: the result, XER and CR field 0, with the bits of XER as they
--- stand after the instruction
+-- what is written at the end of an instruction with a result, in order: the result, XER and CR field 0, where these are,
+-- with the bits of XER as they stand after it
+abbrev pub end_with : Option Slot → ℕ → Bool → Bool → XerBits → List Target
+end_with slot value xer field bits = result_at slot value ++ xer_target xer bits ++ field_target field value bits.so
+
+-- what is written at the end of an arithmetic row
 abbrev pub ended_with : Ending → Places → Insn → AluOut → XerBits → List Target
-ended_with ending places insn out bits =
-    result_at (register_at insn places.written) out.value ++ xer_target (writes_xer ending insn) bits ++ field_target (writes_field ending insn) out.value bits.so
+ended_with ending places insn out bits = end_with (register_at insn places.written) out.value (writes_xer ending insn) (writes_field ending insn) bits
 
 -- the same from XER as it is before
 abbrev pub ended : Ending → Places → Insn → AluOut → ℕ → List Target
@@ -144,6 +154,32 @@ abbrev pub arithmetic_of : AluRow → Insn → Operands → ℕ → Outcome
 arithmetic_of row insn o cia =
     Done (record { items = ended row.ending (places_of (Alu row)) insn (out_of row insn o cia) o.xer }) (behind_insn insn cia)
 
+-- the register that is written, or 0 where none is
+abbrev pub written_of : Places → Insn → ℕ
+written_of places insn = option_map_or (operand_of insn) places.written 0
+
+-- the multiplication of a row whose operands stand at these places, with no tick done
+abbrev pub multiplication_of : ProductRow → Places → Insn → Operands → Multiplication
+multiplication_of row places insn o = record {
+  kind = row.kind;
+  a = factor_in row.kind row.word o.a;
+  b = factor_in row.kind row.word (b_of places insn o);
+  add = added_by row.addend o.c;
+  ticks = 0;
+}
+
+-- the division of a row, with no tick done
+abbrev pub division_of : QuotientRow → Operands → Division
+division_of row o = record { kind = row.kind; dividend = dividend_by row.kind row.extended o.a; divisor = o.b; ticks = 0 }
+
+-- the rows that multiply: RT ← a half of a * b + c
+abbrev pub product_by : ProductRow → Insn → Operands → LongOp
+product_by row insn o = Mul (multiplication_of row (places_of (Product row)) insn o) row.high row.word (written_of (places_of (Product row)) insn) insn.oe insn.rc
+
+-- the rows that divide: RT ← a / b, or the rest
+abbrev pub quotient_by : QuotientRow → Insn → Operands → LongOp
+quotient_by row insn o = Div (division_of row o) row.rest (divides_words row.kind) (written_of (places_of (Quotient row)) insn) insn.oe insn.rc
+
 -- a sum in 64 bits
 abbrev pub wrapped_sum : ℕ → ℕ → ℕ
 wrapped_sum x y = (x + y) % 2 ^ 64
@@ -161,10 +197,6 @@ branch_of B insn o cia = branch_to (target_of (b_of (places_of (Branch B)) insn 
 abbrev pub effective_of : Places → Insn → Operands → ℕ → ℕ
 effective_of places insn o cia = wrapped_sum (a_of places insn o cia) (b_of places insn o)
 
--- the register that is loaded, or 0 where none is
-abbrev pub loaded_of : Places → Insn → ℕ
-loaded_of places insn = option_map_or (operand_of insn) places.written 0
-
 -- the register that gets the effective address: RA with update
 abbrev pub updated_of : StorageRow → Places → Insn → Option ℕ
 updated_of row places insn = if row.update then option_map (operand_of insn) places.base else None
@@ -176,13 +208,15 @@ storage_of row insn o cia = Memory (record {
   ea = effective_of (places_of (Storage row)) insn o cia;
   len = row.len;
   value = o.c;
-  to = loaded_of (places_of (Storage row)) insn;
+  to = written_of (places_of (Storage row)) insn;
   update = updated_of row (places_of (Storage row)) insn;
 })
 
 -- what an operation comes to; one that isn't built comes to nothing
 abbrev pub effect_of : Operation → Insn → Operands → ℕ → Option Outcome
 effect_of (Alu row) insn o cia = Some (arithmetic_of row insn o cia)
+effect_of (Product row) insn o cia = Some (Long (product_by row insn o))
+effect_of (Quotient row) insn o cia = Some (Long (quotient_by row insn o))
 effect_of (Branch row) insn o cia = Some (branch_of row insn o cia)
 effect_of (Storage row) insn o cia = Some (storage_of row insn o cia)
 effect_of Hint insn o cia = Some (branch_to (behind_insn insn cia))

@@ -11,7 +11,9 @@ pub mod Places
 pub mod Endings
 pub mod Xer
 pub mod Reads
+pub mod Long
 pub mod Execute
+pub mod Finish
 pub mod Targets
 pub mod Storage
 pub mod Step

@@ -2,16 +2,24 @@
 use Rattle.std.specs.Prelude.{ℕ, true, false, List, [], ◌∷◌, map, codes}
 use Rattle.mw_alu.specs.declared.op.AluOp.{AluOp}
 use Rattle.mw_alu.specs.declared.op.AluOp.TheVariants.{Addi, Addis, Addic, Subfic, Addpcis, Paddi, Add, Subf, Neg, Addc, Subfc, Adde, Subfe, Addme, Subfme, Addze, Subfze, Addex, Ori, Oris, Xori, Xoris, Andi, Andis, And, Andc, Or, Orc, Xor, Eqv, Nand, Nor, Rlwinm, Rlwnm, Rlwimi, Rldicl, Rldicr, Rldic, Rldimi, Rldcl, Rldcr, Slw, Srw, Sld, Srd, Sraw, Srawi, Srad, Sradi, Extswsli, Extsb, Extsh, Extsw, Cntlzw, Cntlzd, Cnttzw, Cnttzd, Cntlzdm, Cnttzdm, Popcntb, Popcntw, Popcntd, Prtyw, Prtyd, Brh, Brw, Brd, Pdepd, Pextd, Cfuged, Bpermd, Cmpb}
+use Rattle.mw_muldiv.specs.declared.numbers.DivKind.{DivKind}
+use Rattle.mw_muldiv.specs.declared.numbers.DivKind.TheVariants.{Signed64, Unsigned64, Signed32, Unsigned32}
+use Rattle.mw_muldiv.specs.declared.numbers.MulKind.{MulKind}
+use Rattle.mw_muldiv.specs.declared.numbers.MulKind.TheVariants.{Signed, Unsigned}
 use Rattle.mw_isa.specs.declared.memory.MemWhat.{MemWhat}
 use Rattle.mw_isa.specs.declared.memory.MemWhat.TheVariants.{Load, Store, Conditional, Zero, Clean, Icbi}
 use Rattle.mw_isa.specs.declared.operation.Operation.{Operation}
-use Rattle.mw_isa.specs.declared.operation.Operation.TheVariants.{Alu, Branch, Storage, Hint, Later}
+use Rattle.mw_isa.specs.declared.operation.Operation.TheVariants.{Alu, Product, Quotient, Branch, Storage, Hint, Later}
 use Rattle.mw_isa.specs.declared.operation.Inputs.{Inputs}
-use Rattle.mw_isa.specs.declared.operation.Inputs.TheVariants.{BaseNumber, SourceNumber, Two, TwoKind, One, Relative, Next, WordShift, Shift, WordMask, WordMaskBy, WordInsert, Left, Right, Middle, Insert, LeftBy, RightBy}
+use Rattle.mw_isa.specs.declared.operation.Inputs.TheVariants.{BaseNumber, SourceNumber, Two, TwoKind, Three, One, Relative, Next, WordShift, Shift, WordMask, WordMaskBy, WordInsert, Left, Right, Middle, Insert, LeftBy, RightBy}
 use Rattle.mw_isa.specs.declared.operation.Carry.{Carry}
 use Rattle.mw_isa.specs.declared.operation.Carry.TheVariants.{NoCarry, Ca, Ov}
 use Rattle.mw_isa.specs.declared.operation.Ending.{Ending}
 use Rattle.mw_isa.specs.declared.operation.Ending.TheVariants.{Plain, Carries, Records, CarriesAndRecords, Overflows}
+use Rattle.mw_isa.specs.declared.operation.Addend.{Addend}
+use Rattle.mw_isa.specs.declared.operation.Addend.TheVariants.{NoAddend, PlainAddend, SignedAddend}
+use Rattle.mw_isa.specs.declared.operation.ProductRow.{ProductRow}
+use Rattle.mw_isa.specs.declared.operation.QuotientRow.{QuotientRow}
 use Rattle.mw_isa.specs.declared.operation.BranchRow.TheVariants.{B}
 use Rattle.mw_isa.specs.declared.operation.Address.TheVariants.{Displaced, Indexed, Block, Prefixed}
 use Rattle.mw_isa.specs.declared.operation.StorageRow.{StorageRow}
@@ -19,6 +27,34 @@ use Rattle.mw_isa.specs.declared.operation.StorageRow.{StorageRow}
 -- a row: what the unit does, from which operands, with which carry, and what is written beside the result
 abbrev pub alu : AluOp → Inputs → Carry → Ending → Operation
 alu op inputs carry ending = Alu (record { op = op; inputs = inputs; carry = carry; ending = ending })
+
+-- a product row: how it reads its factors, from which operands; the low half is the result
+abbrev pub product : MulKind → Inputs → ProductRow
+product kind inputs = record { kind = kind; inputs = inputs; addend = NoAddend; high = false; word = false }
+
+-- the same, and something is added
+abbrev pub adding : Addend → ProductRow → ProductRow
+adding addend row = record row { addend = addend }
+
+-- the same, and the high half is the result
+abbrev pub high_half : ProductRow → ProductRow
+high_half row = record row { high = true }
+
+-- the same of low words
+abbrev pub of_words : ProductRow → ProductRow
+of_words row = record row { word = true }
+
+-- a quotient row: how it reads its numbers
+abbrev pub quotient : DivKind → QuotientRow
+quotient kind = record { kind = kind; extended = false; rest = false }
+
+-- the same with zeros behind the dividend
+abbrev pub extending : QuotientRow → QuotientRow
+extending row = record row { extended = true }
+
+-- the rest in place of the quotient
+abbrev pub modulo : DivKind → QuotientRow
+modulo kind = record (quotient kind) { rest = true }
 
 -- an access of so many bytes at RA|0 and a displacement
 abbrev pub displaced : MemWhat → ℕ → StorageRow
@@ -84,7 +120,7 @@ operation_lines =
     ∷ on (codes "addic") (alu Addic SourceNumber NoCarry Carries)
     ∷ on (codes "addic.") (alu Addic SourceNumber NoCarry CarriesAndRecords)
     ∷ on (codes "subfic") (alu Subfic SourceNumber NoCarry Carries)
-    ∷ on (codes "mulli") Later
+    ∷ on (codes "mulli") (Product (product Signed SourceNumber))
     ∷ on (codes "cmpi") Later
     ∷ on (codes "cmpli") Later
     ∷ on (codes "tdi") Later
@@ -119,9 +155,9 @@ operation_lines =
     ∷ on (codes "rldimi") (alu Rldimi Insert NoCarry Plain)
     ∷ on (codes "rldcl") (alu Rldcl LeftBy NoCarry Plain)
     ∷ on (codes "rldcr") (alu Rldcr RightBy NoCarry Plain)
-    ∷ on (codes "maddhd") Later
-    ∷ on (codes "maddhdu") Later
-    ∷ on (codes "maddld") Later
+    ∷ on (codes "maddhd") (Product (high_half (adding SignedAddend (product Signed Three))))
+    ∷ on (codes "maddhdu") (Product (high_half (adding PlainAddend (product Unsigned Three))))
+    ∷ on (codes "maddld") (Product (adding PlainAddend (product Signed Three)))
     ∷ on (codes "add") (alu Add Two NoCarry Plain)
     ∷ on (codes "subf") (alu Subf Two NoCarry Plain)
     ∷ on (codes "neg") (alu Neg One NoCarry Plain)
@@ -133,24 +169,24 @@ operation_lines =
     ∷ on (codes "subfme") (alu Subfme One Ca Carries)
     ∷ on (codes "addze") (alu Addze One Ca Carries)
     ∷ on (codes "subfze") (alu Subfze One Ca Carries)
-    ∷ on (codes "mullw") Later
-    ∷ on (codes "mulld") Later
-    ∷ on (codes "mulhd") Later
-    ∷ on (codes "mulhdu") Later
-    ∷ on (codes "mulhw") Later
-    ∷ on (codes "mulhwu") Later
-    ∷ on (codes "divd") Later
-    ∷ on (codes "divdu") Later
-    ∷ on (codes "divw") Later
-    ∷ on (codes "divwu") Later
-    ∷ on (codes "divde") Later
-    ∷ on (codes "divdeu") Later
-    ∷ on (codes "divwe") Later
-    ∷ on (codes "divweu") Later
-    ∷ on (codes "modsd") Later
-    ∷ on (codes "modud") Later
-    ∷ on (codes "modsw") Later
-    ∷ on (codes "moduw") Later
+    ∷ on (codes "mullw") (Product (of_words (product Signed Two)))
+    ∷ on (codes "mulld") (Product (product Signed Two))
+    ∷ on (codes "mulhd") (Product (high_half (product Signed Two)))
+    ∷ on (codes "mulhdu") (Product (high_half (product Unsigned Two)))
+    ∷ on (codes "mulhw") (Product (high_half (of_words (product Signed Two))))
+    ∷ on (codes "mulhwu") (Product (high_half (of_words (product Unsigned Two))))
+    ∷ on (codes "divd") (Quotient (quotient Signed64))
+    ∷ on (codes "divdu") (Quotient (quotient Unsigned64))
+    ∷ on (codes "divw") (Quotient (quotient Signed32))
+    ∷ on (codes "divwu") (Quotient (quotient Unsigned32))
+    ∷ on (codes "divde") (Quotient (extending (quotient Signed64)))
+    ∷ on (codes "divdeu") (Quotient (extending (quotient Unsigned64)))
+    ∷ on (codes "divwe") (Quotient (extending (quotient Signed32)))
+    ∷ on (codes "divweu") (Quotient (extending (quotient Unsigned32)))
+    ∷ on (codes "modsd") (Quotient (modulo Signed64))
+    ∷ on (codes "modud") (Quotient (modulo Unsigned64))
+    ∷ on (codes "modsw") (Quotient (modulo Signed32))
+    ∷ on (codes "moduw") (Quotient (modulo Unsigned32))
     ∷ on (codes "addex") (alu Addex TwoKind Ov Overflows)
     ∷ on (codes "and") (alu And Two NoCarry Plain)
     ∷ on (codes "andc") (alu Andc Two NoCarry Plain)

@@ -6,13 +6,13 @@ use Rattle.mw_tables.specs.Layouts.{operand_at}
 use Rattle.mw_isa.specs.declared.memory.MemWhat.{MemWhat}
 use Rattle.mw_isa.specs.declared.memory.MemWhat.TheVariants.{Load, Store, Conditional}
 use Rattle.mw_isa.specs.declared.operation.Operation.{Operation}
-use Rattle.mw_isa.specs.declared.operation.Operation.TheVariants.{Alu, Branch, Storage, Hint, Later}
+use Rattle.mw_isa.specs.declared.operation.Operation.TheVariants.{Alu, Product, Quotient, Branch, Storage, Hint, Later}
 use Rattle.mw_isa.specs.declared.operation.Address.{Address}
 use Rattle.mw_isa.specs.declared.operation.Address.TheVariants.{Displaced, Indexed, Block, Prefixed}
 use Rattle.mw_isa.specs.declared.operation.BranchRow.{BranchRow}
 use Rattle.mw_isa.specs.declared.operation.BranchRow.TheVariants.{B}
 use Rattle.mw_isa.specs.declared.operation.Inputs.{Inputs}
-use Rattle.mw_isa.specs.declared.operation.Inputs.TheVariants.{BaseNumber, SourceNumber, Two, TwoKind, One, Relative, Next, WordShift, Shift, WordMask, WordMaskBy, WordInsert, Left, Right, Middle, Insert, LeftBy, RightBy}
+use Rattle.mw_isa.specs.declared.operation.Inputs.TheVariants.{BaseNumber, SourceNumber, Two, TwoKind, Three, One, Relative, Next, WordShift, Shift, WordMask, WordMaskBy, WordInsert, Left, Right, Middle, Insert, LeftBy, RightBy}
 use Rattle.mw_isa.specs.declared.place.Places.{Places}
 
 -- what an operand is: a register that is written; one that is read as a, also where register 0 stands for 0 (RA|0), as b
@@ -34,7 +34,7 @@ pub data Role : Type 0 where
   Own : Role
   Unused : Role
 
--- the operands of an arithmetic row
+-- the operands of an arithmetic row, also of a product or a quotient
 abbrev pub input_roles : Inputs → List Role
 -- RT,RA,SI
 input_roles BaseNumber = Written ∷ Base ∷ Number ∷ []
@@ -44,6 +44,8 @@ input_roles SourceNumber = Written ∷ First ∷ Number ∷ []
 input_roles Two = Written ∷ First ∷ Second ∷ []
 -- RT,RA,RB,CY
 input_roles TwoKind = Written ∷ First ∷ Second ∷ Unused ∷ []
+-- RT,RA,RB,RC
+input_roles Three = Written ∷ First ∷ Second ∷ Third ∷ []
 -- RT,RA or RA,RS
 input_roles One = Written ∷ First ∷ []
 -- RT,RA,SI,R
@@ -97,6 +99,8 @@ branch_roles B = Number ∷ []
 -- the operands of an operation, where it does something with them
 abbrev pub roles_by : Operation → Option (List Role)
 roles_by (Alu row) = Some (input_roles row.inputs)
+roles_by (Product row) = Some (input_roles row.inputs)
+roles_by (Quotient row) = Some (input_roles Two)
 roles_by (Branch row) = Some (branch_roles row)
 roles_by (Storage row) = Some (access_roles row.address row.what)
 roles_by Hint = None

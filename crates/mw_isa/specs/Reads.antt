@@ -3,7 +3,7 @@ use Rattle.std.specs.Prelude.{ℕ, zero, suc, ⊤, ◌≡◌, ◌+◌, ◌*◌, 
 use Rattle.std.specs.Option.{option_map_or}
 use Rattle.mw_decode.specs.declared.insn.Insn.{Insn}
 use Rattle.mw_isa.specs.declared.operation.Operation.{Operation}
-use Rattle.mw_isa.specs.declared.operation.Operation.TheVariants.{Alu, Branch, Storage, Hint, Later}
+use Rattle.mw_isa.specs.declared.operation.Operation.TheVariants.{Alu, Product, Quotient, Branch, Storage, Hint, Later}
 use Rattle.mw_isa.specs.declared.outcome.Operands.{Operands}
 use Rattle.mw_isa.specs.declared.place.Places.{Places}
 use Rattle.mw_isa.specs.declared.regs.Regs.{Regs}
@@ -11,7 +11,7 @@ use Rattle.mw_isa.specs.declared.sources.Sources.{Sources}
 use Rattle.mw_isa.specs.declared.slot.Slot.{Slot}
 use Rattle.mw_isa.specs.declared.slot.Slot.TheVariants.{Gpr, CrField, Xer, Lr, Ctr, Tar}
 use Rattle.mw_isa.specs.Operations.{operations}
-use Rattle.mw_isa.specs.Endings.{reads_xer, xer_if}
+use Rattle.mw_isa.specs.Endings.{long_reads_xer, reads_xer, xer_if}
 use Rattle.mw_isa.specs.Slots.{get_slot, same_slot}
 use Rattle.mw_isa.specs.Places.{places_of, operand_of}
 
@@ -45,6 +45,8 @@ slots_in (Some slot) = slot ∷ []
 -- the other registers that an operation reads: XER
 abbrev pub special_reads : Operation → Insn → List Slot
 special_reads (Alu row) insn = slots_in (xer_if (reads_xer row insn))
+special_reads (Product row) insn = slots_in (xer_if (long_reads_xer insn))
+special_reads (Quotient row) insn = slots_in (xer_if (long_reads_xer insn))
 special_reads (Branch row) insn = []
 special_reads (Storage row) insn = []
 special_reads Hint insn = []

@@ -9,9 +9,10 @@ use Rattle.mw_isa.specs.declared.access.Touch.{Touch}
 use Rattle.mw_isa.specs.declared.access.Deed.{Deed}
 use Rattle.mw_isa.specs.declared.access.Deed.TheVariants.{Plain}
 use Rattle.mw_isa.specs.declared.fetched.Fetched.{Fetched}
+use Rattle.mw_isa.specs.declared.long.LongOp.{LongOp}
 use Rattle.mw_isa.specs.declared.memory.MemOp.{MemOp}
 use Rattle.mw_isa.specs.declared.outcome.Outcome.{Outcome}
-use Rattle.mw_isa.specs.declared.outcome.Outcome.TheVariants.{Done, Memory}
+use Rattle.mw_isa.specs.declared.outcome.Outcome.TheVariants.{Done, Long, Memory}
 use Rattle.mw_isa.specs.declared.pages.PageFault.{PageFault}
 use Rattle.mw_isa.specs.declared.pages.StorageFault.{StorageFault}
 use Rattle.mw_isa.specs.declared.pages.Stretches.{Stretches}
@@ -23,7 +24,9 @@ use Rattle.mw_isa.specs.Pages.{touch_of, touches_of, real_at, stretches_of}
 use Rattle.mw_isa.specs.Fetch.{word_page, fetch_at, fetched, is_cut}
 use Rattle.mw_isa.specs.Slots.{get_slot, set_targets}
 use Rattle.mw_isa.specs.Reads.{operands_of}
+use Rattle.mw_isa.specs.Long.{IsStarted, result_of}
 use Rattle.mw_isa.specs.Execute.{exec_of, behind_insn, is_built_row}
+use Rattle.mw_isa.specs.Finish.{finished}
 use Rattle.mw_isa.specs.Storage.{IsSized, OnMemory, IsPlaced, pages_of, accessed, is_built_access, deed_by}
 
 -- an interrupt that an instruction raises: its vector, its cause in SRR1, and DAR and DSISR where they change
@@ -100,6 +103,7 @@ access_raises op placed = None
 abbrev pub placed_by : Option Raised → Outcome → Option Placed
 placed_by (Some raised) outcome = None
 placed_by None (Done targets next) = None
+placed_by None (Long op) = None
 placed_by None (Memory op) = Some (stretches_of real_at (pages_of op))
 
 -- where the access of an outcome under MSR stands
@@ -129,6 +133,7 @@ earlier None later = later
 -- the interrupt that the access of an outcome raises
 abbrev pub place_raises : Outcome → Option Placed → Option Raised
 place_raises (Done targets next) placed = None
+place_raises (Long op) placed = None
 place_raises (Memory op) placed = option_and_then (access_raises op) placed
 
 -- the interrupt that an outcome raises, by itself or by its access
@@ -155,6 +160,7 @@ is_built_insn (Some insn) = is_built insn
 abbrev pub is_built_outcome : Option Outcome → Option Placed → Bool
 is_built_outcome None placed = false
 is_built_outcome (Some (Done targets next)) placed = true
+is_built_outcome (Some (Long op)) placed = true
 is_built_outcome (Some (Memory op)) None = false
 is_built_outcome (Some (Memory op)) (Some (Err fault)) = false
 is_built_outcome (Some (Memory op)) (Some (Ok at)) = is_built_access op at
@@ -167,9 +173,14 @@ builds_by it = is_built_insn it.insn && is_built_outcome it.outcome it.placed
 unfoldable pub builds : State → Bool
 builds state = builds_by (under_way state)
 
+-- what a long operation makes of the registers
+abbrev pub regs_after : LongOp → Regs → Regs
+regs_after op regs = set_targets (finished op (result_of op) regs.xer) regs
+
 -- what an outcome writes, where its access stands; never the instruction's address. A fault writes nothing
 abbrev pub written : Outcome → Option Placed → State → State
 written (Done targets next) placed state = record state { regs = set_targets targets.items state.regs }
+written (Long op) placed state = record state { regs = regs_after op state.regs }
 written (Memory op) None state = state
 written (Memory op) (Some (Err fault)) state = state
 written (Memory op) (Some (Ok at)) state = accessed op at state
@@ -177,6 +188,7 @@ written (Memory op) (Some (Ok at)) state = accessed op at state
 -- the address of the next instruction, from the registers and the address of this one
 abbrev pub next_of : Insn → Outcome → Regs → ℕ → ℕ
 next_of insn (Done targets next) regs at = next
+next_of insn (Long op) regs at = behind_insn insn at
 next_of insn (Memory op) regs at = behind_insn insn at
 
 -- a state at an instruction
@@ -184,21 +196,22 @@ abbrev pub at_address : ℕ → State → State
 at_address at state = record state { regs = record state.regs { cia = at } }
 
 -- the state that an instruction at an address leaves, by what it comes to; without an outcome nothing changes
-abbrev pub finished : Option Insn → Option Outcome → Option Placed → ℕ → State → State
-finished (Some insn) (Some outcome) placed at state = at_address (next_of insn outcome state.regs at) (written outcome placed state)
-finished (Some insn) None placed at state = state
-finished None outcome placed at state = state
+abbrev pub state_behind : Option Insn → Option Outcome → Option Placed → ℕ → State → State
+state_behind (Some insn) (Some outcome) placed at state = at_address (next_of insn outcome state.regs at) (written outcome placed state)
+state_behind (Some insn) None placed at state = state
+state_behind None outcome placed at state = state
 
 -- the state that an instruction leaves. One that raises an interrupt changes nothing of what it would have changed; what
 -- the interrupt changes isn't built
 abbrev pub after_of : Option Raised → UnderWay → State → State
 after_of (Some raised) it state = state
-after_of None it state = finished it.insn it.outcome it.placed it.cia state
+after_of None it state = state_behind it.insn it.outcome it.placed it.cia state
 
 -- the accesses to data of an outcome that has come to them, in order; also where one of them has a fault
 abbrev pub data_of : Option Outcome → Option Placed → List Touch
 data_of (Some (Memory op)) (Some placed) = touches_of (pages_of op)
 data_of (Some (Memory op)) None = []
+data_of (Some (Long op)) placed = []
 data_of (Some (Done targets next)) placed = []
 data_of None placed = []
 
@@ -207,6 +220,7 @@ abbrev pub deed_at : Option Outcome → Option Placed → State → Deed
 deed_at (Some (Memory op)) (Some (Ok at)) state = deed_by op.what at state
 deed_at (Some (Memory op)) (Some (Err fault)) state = Plain
 deed_at (Some (Memory op)) None state = Plain
+deed_at (Some (Long op)) placed state = Plain
 deed_at (Some (Done targets next)) placed state = Plain
 deed_at None placed state = Plain
 
@@ -244,11 +258,19 @@ abbrev pub OnPlaced : (MemOp → Stretches → Type 0) → Outcome → Option Pl
 OnPlaced P (Memory op) (Some (Ok at)) = P op at
 OnPlaced P (Memory op) (Some (Err fault)) = ⊤
 OnPlaced P (Memory op) None = ⊤
+OnPlaced P (Long op) placed = ⊤
 OnPlaced P (Done targets next) placed = ⊤
 
--- what is known of an outcome that can be carried out: an access has one of its lengths, its stretches are those of its
--- pages, and it is built
+-- a fact on the long operation, where an outcome is one
+abbrev pub OnLong : (LongOp → Type 0) → Outcome → Type 0
+OnLong P (Done targets next) = Unit {0}
+OnLong P (Long op) = P op
+OnLong P (Memory op) = Unit {0}
+
+-- what is known of an outcome that can be carried out: no tick of a unit is done; an access has one of its lengths, its
+-- stretches are those of its pages, and it is built
 pub record CanFinish (outcome : Outcome) (placed : Option Placed) : Type 0 where
+  pub started : OnLong IsStarted outcome
   pub sized : OnMemory IsSized outcome
   pub stands : OnPlaced IsPlaced outcome placed
   pub built : is_built_outcome (Some outcome) placed ≡ true

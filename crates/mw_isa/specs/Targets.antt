@@ -1,18 +1,20 @@
 -- The registers that an instruction writes, known before their values.
-use Rattle.std.specs.Prelude.{ℕ, List, [], ◌∷◌, ◌++◌, Option, Some, None, slice_get}
+use Rattle.std.specs.Prelude.{ℕ, Bool, List, [], ◌∷◌, ◌++◌, Option, Some, None, slice_get}
 use Rattle.std.specs.Option.{option_map_or}
 use Rattle.mw_decode.specs.declared.insn.Insn.{Insn}
 use Rattle.mw_isa.specs.declared.memory.MemWhat.{MemWhat}
 use Rattle.mw_isa.specs.declared.memory.MemWhat.TheVariants.{Load, Store, Conditional}
+use Rattle.mw_isa.specs.declared.long.LongOp.{LongOp}
+use Rattle.mw_isa.specs.declared.long.LongOp.TheVariants.{Mul, Div}
 use Rattle.mw_isa.specs.declared.operation.Ending.{Ending}
 use Rattle.mw_isa.specs.declared.operation.Operation.{Operation}
-use Rattle.mw_isa.specs.declared.operation.Operation.TheVariants.{Alu, Branch, Storage, Hint, Later}
+use Rattle.mw_isa.specs.declared.operation.Operation.TheVariants.{Alu, Product, Quotient, Branch, Storage, Hint, Later}
 use Rattle.mw_isa.specs.declared.outcome.Outcome.{Outcome}
-use Rattle.mw_isa.specs.declared.outcome.Outcome.TheVariants.{Done, Memory}
+use Rattle.mw_isa.specs.declared.outcome.Outcome.TheVariants.{Done, Long, Memory}
 use Rattle.mw_isa.specs.declared.place.Places.{Places}
 use Rattle.mw_isa.specs.declared.slot.Slot.{Slot}
 use Rattle.mw_isa.specs.declared.slot.Slot.TheVariants.{Gpr, CrField}
-use Rattle.mw_isa.specs.Execute.{loaded_of, updated_of}
+use Rattle.mw_isa.specs.Execute.{written_of, updated_of}
 use Rattle.mw_isa.specs.Endings.{field_if, writes_field, writes_xer, xer_if}
 use Rattle.mw_isa.specs.Operations.{operations}
 use Rattle.mw_isa.specs.Places.{places_of}
@@ -36,11 +38,22 @@ abbrev pub ending_slots : Ending → Places → Insn → List Slot
 ending_slots ending places insn =
     slots_in (register_at insn places.written) ++ slots_in (xer_if (writes_xer ending insn)) ++ slots_in (field_if (writes_field ending insn))
 
+-- what is written at the end of a product or a quotient, in order: the result's register, XER with OE, CR field 0 with Rc
+abbrev pub end_slots : ℕ → Bool → Bool → List Slot
+end_slots to oe rc = slots_in (Some (Gpr to)) ++ slots_in (xer_if oe) ++ slots_in (field_if rc)
+
+-- what a long operation writes
+abbrev pub long_slots : LongOp → List Slot
+long_slots (Mul unit high word to oe rc) = end_slots to oe rc
+long_slots (Div unit rest word to oe rc) = end_slots to oe rc
+
 -- what an operation writes, in order
 abbrev pub targets_by : Operation → Insn → List Slot
 targets_by (Alu row) insn = ending_slots row.ending (places_of (Alu row)) insn
+targets_by (Product row) insn = end_slots (written_of (places_of (Product row)) insn) insn.oe insn.rc
+targets_by (Quotient row) insn = end_slots (written_of (places_of (Quotient row)) insn) insn.oe insn.rc
 targets_by (Branch row) insn = []
-targets_by (Storage row) insn = access_slots row.what (loaded_of (places_of (Storage row)) insn) (updated_of row (places_of (Storage row)) insn)
+targets_by (Storage row) insn = access_slots row.what (written_of (places_of (Storage row)) insn) (updated_of row (places_of (Storage row)) insn)
 targets_by Hint insn = []
 targets_by Later insn = []
 
@@ -48,7 +61,8 @@ targets_by Later insn = []
 unfoldable pub targets_of : Insn → List Slot
 targets_of insn = option_map_or (λ operation. targets_by operation insn) (slice_get operations insn.row) []
 
--- the registers that an outcome writes, in order: those of its targets, or those of its access
+-- the registers that an outcome writes, in order: those of its targets, of its long operation or of its access
 abbrev pub written_slots : Outcome → List Slot
 written_slots (Done targets next) = slots_of targets.items
+written_slots (Long op) = long_slots op
 written_slots (Memory op) = access_slots op.what op.to op.update

@@ -1,5 +1,5 @@
 ghost use Rattle.std.specs.Prelude.{◌≡◌, IfSome};
-ghost use Rattle.mw_isa.specs.Endings.{field_if, reads_xer, sets_carries, sets_field, sets_overflows, takes_carry, writes_field, writes_overflows, writes_xer, xer_if};
+ghost use Rattle.mw_isa.specs.Endings.{field_if, long_reads_xer, reads_xer, sets_carries, sets_field, sets_overflows, takes_carry, writes_field, writes_overflows, writes_xer, xer_if};
 ghost use Rattle.mw_isa.specs.Slots.{IsSlot};
 
 use crate::operation::{AluRow, Carry, Ending};
@@ -82,6 +82,13 @@ pub fn reads_xer(row: AluRow, insn: &Insn) -> bool
     ensures { result ≡ reads_xer row insn.now }
 {
     takes_carry(row.carry) || (writes_xer(row.ending, insn) || writes_field(row.ending, insn))
+}
+
+/// Whether XER is read by a product or a quotient: for what is kept of it, or for SO.
+pub fn long_reads_xer(insn: &Insn) -> bool
+    ensures { result ≡ long_reads_xer insn.now }
+{
+    insn.oe || insn.rc
 }
 
 /// XER, where it is asked.

@@ -7,6 +7,7 @@ mod ending;
 mod event;
 mod events;
 mod fetched;
+mod long;
 mod memory;
 mod operation;
 mod outcome;
@@ -29,15 +30,17 @@ pub use ending::{sets_carries, writes_field, writes_overflows, writes_xer};
 pub use event::{End, Event};
 pub use events::Events;
 pub use fetched::{Fetched, is_cut};
+pub use long::LongOp;
 pub use memory::{MemOp, MemWhat};
 pub use operation::{
-    Address, AluRow, BranchRow, Carry, Ending, Inputs, Operation, StorageRow, operation_at,
+    Addend, Address, AluRow, BranchRow, Carry, Ending, Inputs, Operation, ProductRow, QuotientRow,
+    StorageRow, operation_at,
 };
 pub use outcome::{Operands, Outcome, Target};
 pub use pages::{Page, PageFault, Pages, StorageFault, Stretch, Stretches};
 pub use place::Places;
 pub use placing::{operand_of, places_of, register};
-pub use reading::{SlotView, loaded_of, operands, reads, targets, updated_of};
+pub use reading::{SlotView, operands, reads, targets, updated_of, written_of};
 pub use real::{fetch_at, real_at};
 pub use regs::Regs;
 pub use slot::Slot;

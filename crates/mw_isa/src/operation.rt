@@ -4,12 +4,17 @@ ghost use Rattle.mw_tables.specs.Rows.{row_count};
 
 use crate::memory::MemWhat;
 use mw_alu::AluOp;
+use mw_muldiv::{DivKind, MulKind};
 
 /// What a row of the instruction table does, by the unit that does it.
 #[derive(Clone, Copy, Debug, PartialEq, Eq)]
 pub enum Operation {
     /// A result that is there in one cycle.
     Alu(AluRow),
+    /// A product.
+    Product(ProductRow),
+    /// A quotient or a rest.
+    Quotient(QuotientRow),
     /// A branch.
     Branch(BranchRow),
     /// An access to storage.
@@ -44,6 +49,8 @@ pub enum Inputs {
     Two,
     /// RT,RA,RB,CY: a is RA, b is RB.
     TwoKind,
+    /// RT,RA,RB,RC: a is RA, b is RB, c is RC.
+    Three,
     /// RT,RA or RA,RS: a is RA or RS.
     One,
     /// RT,RA,SI,R: a is RA|0, or the instruction's own address where R is 1; b the number.
@@ -100,6 +107,43 @@ pub enum Ending {
     Overflows,
 }
 
+/// A row that multiplies (Book I, fixed-point arithmetic instructions).
+#[derive(Clone, Copy, Debug, PartialEq, Eq)]
+pub struct ProductRow {
+    /// How the factors are read.
+    pub kind: MulKind,
+    /// Its operand list: a and b are the factors.
+    pub inputs: Inputs,
+    /// What is added to the product.
+    pub addend: Addend,
+    /// Whether the result is the high half.
+    pub high: bool,
+    /// Whether the factors are low words.
+    pub word: bool,
+}
+
+/// What a row adds to its product.
+#[derive(Clone, Copy, Debug, PartialEq, Eq)]
+pub enum Addend {
+    /// Nothing.
+    NoAddend,
+    /// c.
+    PlainAddend,
+    /// c, extended with its sign.
+    SignedAddend,
+}
+
+/// A row that divides a by b (Book I, fixed-point arithmetic instructions).
+#[derive(Clone, Copy, Debug, PartialEq, Eq)]
+pub struct QuotientRow {
+    /// How the numbers are read, and whether they are low words.
+    pub kind: DivKind,
+    /// Whether zeros stand behind the dividend, as many as it has bits.
+    pub extended: bool,
+    /// Whether the result is the rest.
+    pub rest: bool,
+}
+
 /// The rows that branch (Book I, branch instructions).
 #[derive(Clone, Copy, Debug, PartialEq, Eq)]
 pub enum BranchRow {
@@ -141,6 +185,20 @@ macro_rules! alu {
     };
 }
 
+/// The line of a product row: how it reads its factors, from which operands, what it adds, which half, whether of words.
+macro_rules! product {
+    ($kind:ident, $inputs:ident, $addend:ident, $high:literal, $word:literal) => {
+        Operation::Product(ProductRow { kind: MulKind::$kind, inputs: Inputs::$inputs, addend: Addend::$addend, high: $high, word: $word })
+    };
+}
+
+/// The line of a quotient row: how it reads its numbers, whether zeros stand behind the dividend, whether it gives the rest.
+macro_rules! quotient {
+    ($kind:ident, $extended:literal, $rest:literal) => {
+        Operation::Quotient(QuotientRow { kind: DivKind::$kind, extended: $extended, rest: $rest })
+    };
+}
+
 /// What each row does, in the order of the instruction table.
 #[rattlefmt::skip]
 static OPERATIONS: [Operation; 224] = [
@@ -149,7 +207,7 @@ static OPERATIONS: [Operation; 224] = [
     alu!(Addic, SourceNumber, NoCarry, Carries), // addic
     alu!(Addic, SourceNumber, NoCarry, CarriesAndRecords), // addic.
     alu!(Subfic, SourceNumber, NoCarry, Carries), // subfic
-    Operation::Later, // mulli
+    product!(Signed, SourceNumber, NoAddend, false, false), // mulli
     Operation::Later, // cmpi
     Operation::Later, // cmpli
     Operation::Later, // tdi
@@ -184,9 +242,9 @@ static OPERATIONS: [Operation; 224] = [
     alu!(Rldimi, Insert, NoCarry, Plain), // rldimi
     alu!(Rldcl, LeftBy, NoCarry, Plain), // rldcl
     alu!(Rldcr, RightBy, NoCarry, Plain), // rldcr
-    Operation::Later, // maddhd
-    Operation::Later, // maddhdu
-    Operation::Later, // maddld
+    product!(Signed, Three, SignedAddend, true, false), // maddhd
+    product!(Unsigned, Three, PlainAddend, true, false), // maddhdu
+    product!(Signed, Three, PlainAddend, false, false), // maddld
     alu!(Add, Two, NoCarry, Plain), // add
     alu!(Subf, Two, NoCarry, Plain), // subf
     alu!(Neg, One, NoCarry, Plain), // neg
@@ -198,24 +256,24 @@ static OPERATIONS: [Operation; 224] = [
     alu!(Subfme, One, Ca, Carries), // subfme
     alu!(Addze, One, Ca, Carries), // addze
     alu!(Subfze, One, Ca, Carries), // subfze
-    Operation::Later, // mullw
-    Operation::Later, // mulld
-    Operation::Later, // mulhd
-    Operation::Later, // mulhdu
-    Operation::Later, // mulhw
-    Operation::Later, // mulhwu
-    Operation::Later, // divd
-    Operation::Later, // divdu
-    Operation::Later, // divw
-    Operation::Later, // divwu
-    Operation::Later, // divde
-    Operation::Later, // divdeu
-    Operation::Later, // divwe
-    Operation::Later, // divweu
-    Operation::Later, // modsd
-    Operation::Later, // modud
-    Operation::Later, // modsw
-    Operation::Later, // moduw
+    product!(Signed, Two, NoAddend, false, true), // mullw
+    product!(Signed, Two, NoAddend, false, false), // mulld
+    product!(Signed, Two, NoAddend, true, false), // mulhd
+    product!(Unsigned, Two, NoAddend, true, false), // mulhdu
+    product!(Signed, Two, NoAddend, true, true), // mulhw
+    product!(Unsigned, Two, NoAddend, true, true), // mulhwu
+    quotient!(Signed64, false, false), // divd
+    quotient!(Unsigned64, false, false), // divdu
+    quotient!(Signed32, false, false), // divw
+    quotient!(Unsigned32, false, false), // divwu
+    quotient!(Signed64, true, false), // divde
+    quotient!(Unsigned64, true, false), // divdeu
+    quotient!(Signed32, true, false), // divwe
+    quotient!(Unsigned32, true, false), // divweu
+    quotient!(Signed64, false, true), // modsd
+    quotient!(Unsigned64, false, true), // modud
+    quotient!(Signed32, false, true), // modsw
+    quotient!(Unsigned32, false, true), // moduw
     alu!(Addex, TwoKind, Ov, Overflows), // addex
     alu!(And, Two, NoCarry, Plain), // and
     alu!(Andc, Two, NoCarry, Plain), // andc

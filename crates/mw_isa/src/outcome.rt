@@ -1,3 +1,4 @@
+use crate::long::LongOp;
 use crate::memory::MemOp;
 use crate::slot::Slot;
 use arrayvec::ArrayVec;
@@ -44,6 +45,8 @@ pub enum Outcome {
         /// The address of the next instruction.
         next: u64,
     },
+    /// It takes several ticks of a unit.
+    Long(LongOp),
     /// It accesses storage.
     Memory(MemOp),
 }

@@ -49,6 +49,13 @@ pub fn input_places(inputs: Inputs) -> Places
             second: Some(2),
             ..NONE
         },
+        Inputs::Three => Places {
+            written: Some(0),
+            first: Some(1),
+            second: Some(2),
+            third: Some(3),
+            ..NONE
+        },
         Inputs::One => Places {
             written: Some(0),
             first: Some(1),
@@ -228,6 +235,8 @@ pub fn places_of(operation: Operation) -> Places
 {
     match operation {
         Operation::Alu(row) => input_places(row.inputs),
+        Operation::Product(row) => input_places(row.inputs),
+        Operation::Quotient(_) => input_places(Inputs::Two),
         Operation::Branch(row) => branch_places(row),
         Operation::Storage(row) => access_places(row.address, row.what),
         Operation::Hint => NONE,

@@ -2,13 +2,13 @@ ghost use Rattle.std.specs.Prelude.{◌≡◌, ℕ, ◌<◌, [], IfSome};
 ghost use Rattle.mw_decode.specs.Decode.{IsInsn};
 ghost use Rattle.mw_isa.specs.declared.slot.Slot.{Slot};
 ghost use Rattle.mw_isa.specs.Endings.{xer_if};
-ghost use Rattle.mw_isa.specs.Execute.{loaded_of, updated_of};
+ghost use Rattle.mw_isa.specs.Execute.{written_of, updated_of};
 ghost use Rattle.mw_isa.specs.Places.{HasRegisters, IsRegister, places_of};
 ghost use Rattle.mw_isa.specs.Reads.{base_at, first_source, held, operands_by, operands_in, reads_of, register_at, slots_in, sources_at, special_reads};
 ghost use Rattle.mw_isa.specs.Slots.{IsSlot, bits_of, get_slot};
-ghost use Rattle.mw_isa.specs.Targets.{access_slots, ending_slots, targets_by, targets_of, update_slots};
+ghost use Rattle.mw_isa.specs.Targets.{access_slots, end_slots, ending_slots, targets_by, targets_of, update_slots};
 
-use crate::ending::{field_if, reads_xer, writes_field, writes_xer, xer_if};
+use crate::ending::{field_if, long_reads_xer, reads_xer, writes_field, writes_xer, xer_if};
 use crate::memory::MemWhat;
 use crate::operation::{Ending, Operation, StorageRow, operation_at};
 use crate::outcome::Operands;
@@ -145,6 +145,8 @@ fn special_xer(operation: Operation, insn: &Insn) -> bool
 {
     match operation {
         Operation::Alu(row) => reads_xer(row, insn),
+        Operation::Product(_) => long_reads_xer(insn),
+        Operation::Quotient(_) => long_reads_xer(insn),
         Operation::Branch(_) => false,
         Operation::Storage(_) => false,
         Operation::Hint => false,
@@ -182,10 +184,10 @@ pub fn reads(insn: &Insn) -> SlotSet
         .with(sources.a)
 }
 
-/// The register that is loaded, or 0 where none is.
-pub fn loaded_of(insn: &Insn, places: Places) -> u8
+/// The register that is written, or 0 where none is.
+pub fn written_of(insn: &Insn, places: Places) -> u8
     requires { HasRegisters insn.now places }
-    ensures value { result ≡ loaded_of places insn.now }
+    ensures value { result ≡ written_of places insn.now }
     ensures bound { result < 32 }
 {
     match places.written {
@@ -258,6 +260,17 @@ fn ending_set(ending: Ending, insn: &Insn, places: Places) -> SlotSet
         .with(register_at(insn, places.written))
 }
 
+/// The registers that are written at the end of a product or a quotient.
+fn end_set(insn: &Insn, places: Places) -> SlotSet
+    requires { HasRegisters insn.now places }
+    ensures { result.bits ≡ bits_of (end_slots (written_of places insn.now) insn.now.oe insn.now.rc) }
+{
+    SlotSet::NONE
+        .with(field_if(insn.rc))
+        .with(xer_if(insn.oe))
+        .with(Some(Slot::Gpr(written_of(insn, places))))
+}
+
 /// The registers that an operation writes.
 fn operation_set(operation: Operation, insn: &Insn) -> SlotSet
     requires { HasRegisters insn.now (places_of operation) }
@@ -266,10 +279,12 @@ fn operation_set(operation: Operation, insn: &Insn) -> SlotSet
     let places = places_of(operation);
     match operation {
         Operation::Alu(row) => ending_set(row.ending, insn, places),
+        Operation::Product(_) => end_set(insn, places),
+        Operation::Quotient(_) => end_set(insn, places),
         Operation::Branch(_) => SlotSet::NONE,
         Operation::Storage(row) => access_set(
             row.what,
-            loaded_of(insn, places),
+            written_of(insn, places),
             updated_of(insn, row, places),
         ),
         Operation::Hint => SlotSet::NONE,

@@ -3,7 +3,7 @@ use Rattle.mw_decode.proofs.Ranges.{IsInsn-row}
 use Rattle.mw_isa.specs.Storage.{IsSized, OnMemory}
 use Rattle.mw_isa.proofs.StorageLaws.{storage-sized}
 use Rattle.mw_isa.proofs.RowLaws.{limited, registers}
-use Rattle.mw_isa.specs.declared.operation.Operation.TheVariants.{Alu, Storage}
+use Rattle.mw_isa.specs.declared.operation.Operation.TheVariants.{Alu, Product, Quotient, Storage}
 use Rattle.mw_exec.proofs.unit.exec.Goals as goal
 
 pub operation_at-requires : goal.operation_at-requires
@@ -20,6 +20,12 @@ arithmetic_of-requires-clause-registers c = registers c.args.insn.now (Alu c.in-
 
 pub arithmetic_of-requires-clause-limits : goal.arithmetic_of-requires-clause-limits
 arithmetic_of-requires-clause-limits c = limited c.args.insn.now c.in-Alu.row c.requires.insn c.in-Alu.ensures
+
+pub product_by-requires : goal.product_by-requires
+product_by-requires c = registers c.args.insn.now (Product c.in-Product.row) c.requires.insn c.in-Product.ensures
+
+pub quotient_by-requires : goal.quotient_by-requires
+quotient_by-requires c = registers c.args.insn.now (Quotient c.in-Quotient.row) c.requires.insn c.in-Quotient.ensures
 
 pub storage_of-requires : goal.storage_of-requires
 storage_of-requires c = registers c.args.insn.now (Storage c.in-Storage.row) c.requires.insn c.in-Storage.ensures
