@@ -1,5 +1,5 @@
 # Each instruction that runs today, once: sums, a branch, loads and stores of every width, cache, prefixed rows, and
-# results with carries, of logic, rotates and shifts.
+# results with carries, of logic, rotates and shifts, counts, permutes, products and quotients.
         addi   r3, r0, 0x400    # r3: where the bytes stand
         addis  r4, r0, -2       # r4 = fffffffffffe0000
         ori    r4, r4, 0x8081   # r4 = fffffffffffe8081
@@ -154,4 +154,49 @@ wide:   paddi  r15, r0, 0x10400, 0
         extsb  r29, r18         # ffffffffffffff81
         extsh  r29, r18         # ffffffffffff8081
         extsw  r29, r18         # fffffffffffe8081
+
+# Counts and permutes.
+        cntlzw r30, r18         # 0
+        cntlzd r30, r18         # 20
+        cnttzw r30, r18         # 0
+        cnttzd r30, r4          # 0
+        cntlzdm r30, r18, r4
+        cnttzdm r30, r18, r4
+        popcntb r30, r18
+        popcntw r30, r18
+        popcntd r30, r18        # 12
+        prtyw  r30, r18
+        prtyd  r30, r18
+        brh    r30, r18         # feff8180
+        brw    r30, r18         # 8180feff
+        brd    r30, r18         # 8180feff00000000
+        pdepd  r30, r22, r18
+        pextd  r30, r4, r18
+        cfuged r30, r4, r18
+        bpermd r30, r22, r4
+        cmpb   r30, r18, r4     # ffffffff
+
+# Products, quotients and rests.
+        mulli  r31, r18, 3      # 2fffb8183
+        mullw  r31, r18, r18
+        mulld  r31, r18, r18
+        mulhw  r31, r18, r18
+        mulhwu r31, r18, r18
+        mulhd  r31, r19, r19
+        mulhdu r31, r19, r19
+        maddld r31, r18, r22, r18 # 1fffd0102
+        maddhd r31, r19, r22, r19 # ffffffffffffffff
+        maddhdu r31, r19, r22, r19 # 1
+        divd   r31, r19, r22
+        divdu  r31, r19, r18
+        divw   r31, r19, r22
+        divwu  r31, r19, r22
+        divde  r31, r22, r19
+        divdeu r31, r22, r19
+        divwe  r31, r22, r18
+        divweu r31, r22, r18
+        modsd  r31, r19, r18
+        modud  r31, r19, r18
+        modsw  r31, r19, r22
+        moduw  r31, r19, r3     # 81, of fffe8081 by 400
 here:   b      here

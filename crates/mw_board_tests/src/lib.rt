@@ -19,3 +19,5 @@ mod storage;
 mod stretches;
 #[cfg(test)]
 mod trace;
+#[cfg(test)]
+mod units;

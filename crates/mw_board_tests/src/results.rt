@@ -1,3 +1,4 @@
+use crate::units::{PERMUTES, PRODUCTS, QUOTIENTS};
 use mw_board::simulate;
 use mw_bus::Ram;
 use mw_isa::State;
@@ -8,7 +9,15 @@ use std::test::Fail;
 
 /// A word and the one behind it; its address; the contents of r3, r4, r5 and XER before it; and those of r5, XER and
 /// field 0 of CR behind it. CR is 0 before each, and r0 is [`OTHER`].
-struct Row(u32, u32, u32, [u64; 4], u64, u64, u32);
+pub struct Row(
+    pub u32,
+    pub u32,
+    pub u32,
+    pub [u64; 4],
+    pub u64,
+    pub u64,
+    pub u32,
+);
 
 /// What stands in r0.
 const OTHER: u64 = 0xdead_beef_0bad_f00d;
@@ -970,6 +979,9 @@ fn each_row_in_each_form(rt: HostRuntime) -> Result<(), Fail> {
         LOGIC.as_slice(),
         ROTATES.as_slice(),
         SHIFTS.as_slice(),
+        PERMUTES.as_slice(),
+        PRODUCTS.as_slice(),
+        QUOTIENTS.as_slice(),
     ] {
         for row in rows {
             assert!(rt; retires(&mut state, row), "{:08x}", row.0);
