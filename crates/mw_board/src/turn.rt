@@ -12,6 +12,6 @@ pub fn turned(state: &mut State) -> Option<Event>
 {
     match prepare(state) {
         None => None,
-        Some(prepared) => Some(carry_out(state, &prepared)),
+        Some(prepared) => Some(carry_out(state, prepared)),
     }
 }

@@ -11,9 +11,10 @@ use Rattle.mw_isa.specs.declared.outcome.Outcome.{Outcome}
 use Rattle.mw_isa.specs.State.{State}
 use Rattle.mw_isa.specs.Fetch.{fetched, is_cut}
 use Rattle.mw_isa.specs.Reads.{operands_of}
+use Rattle.mw_isa.specs.Long.{IsStarted}
 use Rattle.mw_isa.specs.Execute.{exec_of}
 use Rattle.mw_isa.specs.Storage.{IsSized, OnMemory, IsPlaced}
-use Rattle.mw_isa.specs.Step.{Placed, IsKnown, OnPlaced, step, insn_in, insn_of, decoded_of, placed_of, builds, is_built, is_built_outcome, finished}
+use Rattle.mw_isa.specs.Step.{Placed, IsKnown, OnLong, OnPlaced, step, insn_in, insn_of, decoded_of, placed_of, builds, is_built, is_built_outcome, state_behind}
 use Rattle.mw_isa.proofs.StepLaws.{after-known, builds-known, builds-none, builds-not, insn_of-cut, insn_of-whole}
 use Rattle.mw_step.specs.declared.prepared.Prepared.{Prepared}
 use Rattle.mw_step.specs.Prepared.{IsPrepared}
@@ -59,17 +60,17 @@ pub unbuilt-outcome : (state : State) (words : Fetched) (insn : Insn) (operands 
 unbuilt-outcome state words insn operands outcome placed m o e p stopped = built-by state words insn operands outcome placed m o e p ∙ and_right (is_built insn) _ stopped
 
 -- one that is built is prepared so
-pub prepared-is : (state : State) (prepared : Prepared) (operands : Operands) → Met state prepared.words (Is prepared.insn) → operands ≡ operands_of prepared.insn state.regs → exec_of prepared.insn operands state.regs.cia ≡ Some prepared.outcome → prepared.placed ≡ placed_of prepared.outcome state.regs.msr → is_built prepared.insn ≡ true → is_built_outcome (Some prepared.outcome) prepared.placed ≡ true → IsInsn prepared.insn → OnMemory IsSized prepared.outcome → OnPlaced IsPlaced prepared.outcome prepared.placed → IsPrepared prepared state
-prepared-is state prepared operands m o e p built done is sized stands = record {
+pub prepared-is : (state : State) (prepared : Prepared) (operands : Operands) → Met state prepared.words (Is prepared.insn) → operands ≡ operands_of prepared.insn state.regs → exec_of prepared.insn operands state.regs.cia ≡ Some prepared.outcome → prepared.placed ≡ placed_of prepared.outcome state.regs.msr → is_built prepared.insn ≡ true → is_built_outcome (Some prepared.outcome) prepared.placed ≡ true → IsInsn prepared.insn → OnLong IsStarted prepared.outcome → OnMemory IsSized prepared.outcome → OnPlaced IsPlaced prepared.outcome prepared.placed → IsPrepared prepared state
+prepared-is state prepared operands m o e p built done is started sized stands = record {
   known = known-is state prepared.words prepared.insn operands prepared.outcome m o e;
   placed = p;
   built = built-by state prepared.words prepared.insn operands prepared.outcome prepared.placed m o e p ∙ ap₂ (λ (a : Bool) (b : Bool). a && b) built done;
   is = is;
-  can = record { sized = sized; stands = stands; built = done };
+  can = record { started = started; sized = sized; stands = stands; built = done };
 }
 
 -- the step of what is prepared leaves what its outcome leaves
-pub prepared-after : (prepared : Prepared) (state : State) → IsPrepared prepared state → (step state).after ≡ finished (Some prepared.insn) (Some prepared.outcome) prepared.placed state.regs.cia state
+pub prepared-after : (prepared : Prepared) (state : State) → IsPrepared prepared state → (step state).after ≡ state_behind (Some prepared.insn) (Some prepared.outcome) prepared.placed state.regs.cia state
 prepared-after prepared state p =
     after-known prepared.words prepared.insn prepared.outcome state p.known
-    ∙ ap (λ (v : Option Placed). finished (Some prepared.insn) (Some prepared.outcome) v state.regs.cia state) (sym p.placed)
+    ∙ ap (λ (v : Option Placed). state_behind (Some prepared.insn) (Some prepared.outcome) v state.regs.cia state) (sym p.placed)

@@ -1,57 +1,60 @@
 ghost use Rattle.std.specs.Prelude.{◌≡◌, ◌<◌, Some};
 ghost use Rattle.mw_tables.specs.Rows.{row_count};
 ghost use Rattle.mw_isa.specs.State.{seen};
-ghost use Rattle.mw_isa.specs.Step.{CanFinish, finished, step, written};
+ghost use Rattle.mw_isa.specs.Step.{CanFinish, state_behind, step, written};
 ghost use Rattle.mw_step.specs.Prepared.{IsPrepared, retired};
 
+use crate::long::finish_long;
 use crate::prepared::Prepared;
 use crate::storage::access;
 use mw_exec::next_of;
 use mw_isa::{Event, Outcome, PageFault, State, Stretches, set_targets};
 
 /// Writes what an outcome writes, where its access stands.
-fn write(outcome: &Outcome, placed: &Option<Result<Stretches, PageFault>>, state: &mut State)
-    requires { CanFinish outcome.now placed.now }
-    ensures value { seen state.new ≡ written outcome.now placed.now (seen state.old) }
+fn write(outcome: Outcome, placed: &Option<Result<Stretches, PageFault>>, state: &mut State)
+    requires { CanFinish outcome placed.now }
+    ensures value { seen state.new ≡ written outcome placed.now (seen state.old) }
     ensures room { state.new.devices.room ≡ state.old.devices.room }
 {
     match outcome {
         Outcome::Done { targets, .. } => set_targets(targets.as_slice(), &mut state.regs),
+        Outcome::Long(op) => finish_long(op, &mut state.regs),
         Outcome::Memory(op) => match placed {
             None => {}
             Some(Err(_)) => {}
-            Some(Ok(at)) => access(op, at, state),
+            Some(Ok(at)) => access(&op, at, state),
         },
     }
 }
 
 /// Leaves the state behind an instruction at an address.
-fn finish(prepared: &Prepared, cia: u64, state: &mut State)
-    requires row { prepared.now.insn.row < row_count }
-    requires can { CanFinish prepared.now.outcome prepared.now.placed }
-    ensures value { seen state.new ≡ finished (Some prepared.now.insn) (Some prepared.now.outcome) prepared.now.placed cia (seen state.old) }
+fn finish(prepared: Prepared, cia: u64, state: &mut State)
+    requires row { prepared.insn.row < row_count }
+    requires can { CanFinish prepared.outcome prepared.placed }
+    ensures value { seen state.new ≡ state_behind (Some prepared.insn) (Some prepared.outcome) prepared.placed cia (seen state.old) }
     ensures room { state.new.devices.room ≡ state.old.devices.room }
 {
     let next = next_of(&prepared.insn, &prepared.outcome, &state.regs, cia);
-    write(&prepared.outcome, &prepared.placed, state);
+    write(prepared.outcome, &prepared.placed, state);
     state.regs.cia = next;
 }
 
 /// Carries out the next instruction, as it was prepared, at the devices' cycle: the state is then the one
 /// behind it, and the event says that it retired (Books I to III). It can't fail and takes no memory.
-pub fn carry_out(state: &mut State, prepared: &Prepared) -> Event
-    requires { IsPrepared prepared.now (seen state.old) }
+pub fn carry_out(state: &mut State, prepared: Prepared) -> Event
+    requires { IsPrepared prepared (seen state.old) }
     ensures event { result ≡ retired (seen state.old) }
     ensures after { seen state.new ≡ (step (seen state.old)).after }
     ensures room { state.new.devices.room ≡ state.old.devices.room }
 {
     let cia = state.regs.cia;
     let cycle = state.devices.cycle();
+    let words = prepared.words;
     finish(prepared, cia, state);
     Event::Retire {
         cycle,
         cia,
-        word: prepared.words.word,
-        suffix: prepared.words.suffix,
+        word: words.word,
+        suffix: words.suffix,
     }
 }

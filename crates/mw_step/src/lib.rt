@@ -4,6 +4,7 @@
 
 mod carry;
 mod fetch;
+mod long;
 mod look;
 mod place;
 mod prepared;

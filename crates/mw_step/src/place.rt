@@ -47,6 +47,7 @@ pub fn placed_of(outcome: &Outcome, msr: u64) -> Option<Result<Stretches, PageFa
     let _ = msr;
     match outcome {
         Outcome::Done { .. } => None,
+        Outcome::Long(_) => None,
         Outcome::Memory(op) => Some(stretches_of(&pages_of(op))),
     }
 }

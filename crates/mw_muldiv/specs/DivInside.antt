@@ -1,0 +1,79 @@
+-- What a division keeps to itself while it is under way. No public clause names it.
+use Rattle.std.specs.Prelude.{◌≡◌, ℕ, ◌+◌, ◌-◌, ◌*◌, ◌/◌, ◌%◌, ◌^◌, ◌<◌, Bool, true, false, not, if◌then◌else◌, nat_lt, ℤ, pos, negsuc, neg_ℤ, unsigned_abs}
+use Rattle.mw_muldiv.specs.declared.numbers.Wide128.{Wide128}
+use Rattle.mw_muldiv.specs.declared.steps.Partial.{Partial}
+use Rattle.mw_muldiv.specs.declared.numbers.DivKind.{DivKind}
+use Rattle.mw_muldiv.specs.declared.numbers.DivKind.TheVariants.{Signed64, Unsigned64, Signed32, Unsigned32}
+use Rattle.mw_muldiv.specs.declared.numbers.DivOut.{DivOut}
+use Rattle.mw_muldiv.specs.declared.numbers.DivOut.TheVariants.{NoQuotient}
+use Rattle.mw_muldiv.specs.declared.divider.Div.TheInside.{Inside}
+use Rattle.mw_muldiv.specs.Division.{Division, dividend_of, divisor_of, settled}
+
+-- what is seen of it
+abbrev pub division_of : Inside → Division
+division_of d = record { kind = d.kind; dividend = d.dividend; divisor = d.divisor; ticks = d.ticks }
+
+-- a number is below 0
+abbrev pub is_negative : ℤ → Bool
+is_negative (pos n) = false
+is_negative (negsuc n) = true
+
+-- the number of this size, with or without a sign
+abbrev pub signed_of : Bool → ℕ → ℤ
+signed_of false size = pos size
+signed_of true size = neg_ℤ (pos size)
+
+-- two signs differ
+abbrev pub differ : Bool → Bool → Bool
+differ false sign = sign
+differ true sign = not sign
+
+-- the dividend's bit that a tick takes, the highest of the low 64 first
+abbrev pub next_bit : ℕ → ℕ → ℕ
+next_bit size ticks = size / 2 ^ (63 - ticks) % 2
+
+-- quotient and rest with a bit of the dividend more; nothing is done where the rest isn't below the divisor
+abbrev pub with_bit : Partial → ℕ → ℕ → Partial
+with_bit p bit divisor =
+    if nat_lt p.rest divisor
+    then if nat_lt (2 * p.rest + bit) divisor
+    then record { quotient = 2 * p.quotient; rest = 2 * p.rest + bit }
+    else record { quotient = 2 * p.quotient + 1; rest = 2 * p.rest + bit - divisor }
+    else p
+
+-- all bits that the kind's results have
+abbrev pub ones_of : DivKind → ℕ
+ones_of Signed64 = 0xFFFF_FFFF_FFFF_FFFF
+ones_of Unsigned64 = 0xFFFF_FFFF_FFFF_FFFF
+ones_of Signed32 = 0xFFFF_FFFF
+ones_of Unsigned32 = 0xFFFF_FFFF
+
+-- the largest quotient with this sign that fits, without its sign
+abbrev pub largest : DivKind → Bool → ℕ
+largest Signed64 false = 0x7FFF_FFFF_FFFF_FFFF
+largest Signed64 true = 0x8000_0000_0000_0000
+largest Signed32 false = 0x7FFF_FFFF
+largest Signed32 true = 0x8000_0000
+largest Unsigned64 false = 0xFFFF_FFFF_FFFF_FFFF
+largest Unsigned64 true = 0
+largest Unsigned32 false = 0xFFFF_FFFF
+largest Unsigned32 true = 0
+
+-- what it comes to, by quotient and rest without signs: where the rest isn't below the divisor there is no quotient
+-- of 64 bits
+abbrev pub outcome_of : DivKind → Wide128 → ℕ → Partial → DivOut
+outcome_of kind dividend divisor p =
+    let n = dividend_of kind dividend in
+    let d = divisor_of kind divisor in
+    if nat_lt p.rest (unsigned_abs d) then settled kind (signed_of (differ (is_negative n) (is_negative d)) p.quotient) (signed_of (is_negative n) p.rest) else NoQuotient
+
+-- it is as far as its ticks say
+pub record IsDivided (d : Inside) : Type 0 where
+  pub dividend_is : d.dividend_size ≡ unsigned_abs (dividend_of d.kind d.dividend)
+  pub divisor_is : d.divisor_size ≡ unsigned_abs (divisor_of d.kind d.divisor)
+  -- a bit of the quotient was found in each tick
+  pub few_bits : d.so_far.quotient < 2 ^ d.ticks
+  -- the rest is below the divisor where the quotient has at most 64 bits
+  pub small : d.dividend_size < d.divisor_size * 2 ^ 64 → d.so_far.rest < d.divisor_size
+  -- then the dividend's bits so far are the quotient times the divisor, and the rest
+  pub whole : d.so_far.rest < d.divisor_size → d.so_far.quotient * d.divisor_size + d.so_far.rest ≡ d.dividend_size / 2 ^ (64 - d.ticks)
