@@ -2,6 +2,7 @@
 -- accesses raise an alignment interrupt, and the blocks of 64 bytes, are this board's own choice; Book III has what the
 -- interrupt is.
 use Rattle.std.specs.Prelude.{ℕ, ◌≡◌, ◌+◌, ◌-◌, ◌*◌, ◌/◌, ◌%◌, ◌^◌, ◌<◌, ◌==◌, Bool, true, false, not, ◌&&◌, ◌||◌, if◌then◌else◌, nat_lt, List, [], ◌∷◌, replicate, Option, Some, None, IfSome, is_some}
+use Rattle.std.specs.Int.{from_bool}
 use Rattle.std.specs.Option.{option_map_or}
 use Rattle.mw_bits.specs.Fields.{sext_of}
 use Rattle.mw_bus.specs.Memory.{number_of, bytes_of}
@@ -25,6 +26,7 @@ use Rattle.mw_isa.specs.declared.regs.Regs.{Regs}
 use Rattle.mw_isa.specs.Pages.{page_size, is_in_page, pages_from, size_of, MeetAtPage, is_in_ram, bytes_in, laid_in, spans_of}
 use Rattle.mw_isa.specs.State.{State}
 use Rattle.mw_isa.specs.Slots.{known, set_targets}
+use Rattle.mw_isa.specs.Xer.{xer_bits}
 
 -- the lengths that an access can have: 1, 2, 4 or 8 bytes; 64 for zeros, and 1 where nothing is loaded or stored
 abbrev pub is_sized_by : MemWhat → ℕ → Bool
@@ -145,7 +147,7 @@ stores what reserved = false
 
 -- CR field 0 of a store-conditional: 0, 0, whether it stored, and SO
 abbrev pub success_field : Bool → ℕ → ℕ
-success_field success xer = (if success then 2 else 0) + xer / 2 ^ 31 % 2
+success_field success xer = (if success then 2 else 0) + from_bool (xer_bits xer).so
 
 -- RA ← EA with update
 abbrev pub update_targets : MemOp → Option ℕ → List Target

@@ -21,138 +21,30 @@ const NONE: Places = Places {
 };
 
 /// Where the operands of an arithmetic row stand.
-pub fn input_places(inputs: Inputs) -> Places
+#[rattlefmt::skip]
+fn input_places(inputs: Inputs) -> Places
     ensures { result ≡ places_in (input_roles inputs) }
 {
     match inputs {
-        Inputs::BaseNumber => Places {
-            written: Some(0),
-            base: Some(1),
-            number: Some(2),
-            ..NONE
-        },
-        Inputs::SourceNumber => Places {
-            written: Some(0),
-            first: Some(1),
-            number: Some(2),
-            ..NONE
-        },
-        Inputs::Two => Places {
-            written: Some(0),
-            first: Some(1),
-            second: Some(2),
-            ..NONE
-        },
-        Inputs::TwoKind => Places {
-            written: Some(0),
-            first: Some(1),
-            second: Some(2),
-            ..NONE
-        },
-        Inputs::Three => Places {
-            written: Some(0),
-            first: Some(1),
-            second: Some(2),
-            third: Some(3),
-            ..NONE
-        },
-        Inputs::One => Places {
-            written: Some(0),
-            first: Some(1),
-            ..NONE
-        },
-        Inputs::Relative => Places {
-            written: Some(0),
-            base: Some(1),
-            number: Some(2),
-            own: Some(3),
-            ..NONE
-        },
-        Inputs::Next => Places {
-            written: Some(0),
-            number: Some(1),
-            ..NONE
-        },
-        Inputs::WordShift => Places {
-            written: Some(0),
-            first: Some(1),
-            amount: Some(2),
-            ..NONE
-        },
-        Inputs::Shift => Places {
-            written: Some(0),
-            first: Some(1),
-            amount: Some(2),
-            ..NONE
-        },
-        Inputs::WordMask => Places {
-            written: Some(0),
-            first: Some(1),
-            number: Some(2),
-            start: Some(3),
-            end: Some(4),
-            ..NONE
-        },
-        Inputs::WordMaskBy => Places {
-            written: Some(0),
-            first: Some(1),
-            second: Some(2),
-            start: Some(3),
-            end: Some(4),
-            ..NONE
-        },
-        Inputs::WordInsert => Places {
-            written: Some(0),
-            third: Some(0),
-            first: Some(1),
-            number: Some(2),
-            start: Some(3),
-            end: Some(4),
-            ..NONE
-        },
-        Inputs::Left => Places {
-            written: Some(0),
-            first: Some(1),
-            number: Some(2),
-            start: Some(3),
-            ..NONE
-        },
-        Inputs::Right => Places {
-            written: Some(0),
-            first: Some(1),
-            number: Some(2),
-            end: Some(3),
-            ..NONE
-        },
-        Inputs::Middle => Places {
-            written: Some(0),
-            first: Some(1),
-            number: Some(2),
-            start: Some(3),
-            ..NONE
-        },
-        Inputs::Insert => Places {
-            written: Some(0),
-            third: Some(0),
-            first: Some(1),
-            number: Some(2),
-            start: Some(3),
-            ..NONE
-        },
-        Inputs::LeftBy => Places {
-            written: Some(0),
-            first: Some(1),
-            second: Some(2),
-            start: Some(3),
-            ..NONE
-        },
-        Inputs::RightBy => Places {
-            written: Some(0),
-            first: Some(1),
-            second: Some(2),
-            end: Some(3),
-            ..NONE
-        },
+        Inputs::BaseNumber => Places { written: Some(0), base: Some(1), number: Some(2), ..NONE },
+        Inputs::SourceNumber => Places { written: Some(0), first: Some(1), number: Some(2), ..NONE },
+        Inputs::Two => Places { written: Some(0), first: Some(1), second: Some(2), ..NONE },
+        Inputs::TwoKind => Places { written: Some(0), first: Some(1), second: Some(2), ..NONE },
+        Inputs::Three => Places { written: Some(0), first: Some(1), second: Some(2), third: Some(3), ..NONE },
+        Inputs::One => Places { written: Some(0), first: Some(1), ..NONE },
+        Inputs::Relative => Places { written: Some(0), base: Some(1), number: Some(2), own: Some(3), ..NONE },
+        Inputs::Next => Places { written: Some(0), number: Some(1), ..NONE },
+        Inputs::WordShift => Places { written: Some(0), first: Some(1), amount: Some(2), ..NONE },
+        Inputs::Shift => Places { written: Some(0), first: Some(1), amount: Some(2), ..NONE },
+        Inputs::WordMask => Places { written: Some(0), first: Some(1), number: Some(2), start: Some(3), end: Some(4), ..NONE },
+        Inputs::WordMaskBy => Places { written: Some(0), first: Some(1), second: Some(2), start: Some(3), end: Some(4), ..NONE },
+        Inputs::WordInsert => Places { written: Some(0), third: Some(0), first: Some(1), number: Some(2), start: Some(3), end: Some(4), ..NONE },
+        Inputs::Left => Places { written: Some(0), first: Some(1), number: Some(2), start: Some(3), ..NONE },
+        Inputs::Right => Places { written: Some(0), first: Some(1), number: Some(2), end: Some(3), ..NONE },
+        Inputs::Middle => Places { written: Some(0), first: Some(1), number: Some(2), start: Some(3), ..NONE },
+        Inputs::Insert => Places { written: Some(0), third: Some(0), first: Some(1), number: Some(2), start: Some(3), ..NONE },
+        Inputs::LeftBy => Places { written: Some(0), first: Some(1), second: Some(2), start: Some(3), ..NONE },
+        Inputs::RightBy => Places { written: Some(0), first: Some(1), second: Some(2), end: Some(3), ..NONE },
     }
 }
 

@@ -4,7 +4,7 @@ ghost use Rattle.mw_isa.specs.Slots.{set_slot, set_targets};
 ghost use Rattle.mw_isa.specs.declared.slot.Slot.TheVariants.{CrField};
 
 use crate::address::block_of;
-use mw_isa::{MemOp, MemWhat, Regs, Slot, Stretches, set_slot};
+use mw_isa::{MemOp, MemWhat, Regs, Slot, Stretches, set_slot, xer_bits};
 
 /// Whether a reservation stands for the block of an access (Book II, reservations). It can't fail.
 pub fn is_reserved(at: &Stretches, reserve: Option<u32>) -> bool
@@ -30,7 +30,7 @@ fn success_field(success: bool, xer: u64) -> u64
     ensures { result ≡ success_field success xer }
 {
     let stored = if success { 2 } else { 0 };
-    stored + (xer >> 31) % 2
+    stored + u64::from(xer_bits(xer).so)
 }
 
 /// Writes the registers that an access writes.
