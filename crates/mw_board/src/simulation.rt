@@ -16,7 +16,8 @@ use mw_isa::{End, Events, State};
 use mw_soc::Devices;
 use std::alloc::Global;
 
-/// The run that reached its number of cycles with these events and this state, whose devices are brought to it.
+/// The run that reached its number of cycles with these events and in this state, whose devices are brought to that
+/// cycle. It takes no memory, and can't fail.
 fn stopped(events: Events, mut state: State, n: u64) -> Run
     requires later { cycle_of state.devices.devices ≤ n }
     requires room { n / 160 ≤ state.devices.room }

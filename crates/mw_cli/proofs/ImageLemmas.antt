@@ -9,14 +9,14 @@ use Rattle.mw_isa.specs.Text.{text_of}
 use Rattle.mw_isa.specs.Reading.{events_of, end_of}
 use Rattle.mw_isa.proofs.RunLaws.{has_some, run-spelled}
 use Rattle.mw_board.proofs.ImageLemmas.{start_with, RunsImage, unbuilt_with, runs-image, unbuilt-image}
-use Rattle.mw_cli.specs.declared.status.Status.TheVariants.{Done}
+use Rattle.mw_cli.specs.declared.status.Status.TheVariants.{Done, WriteFault}
 use Rattle.mw_cli.specs.Command.{RunOrder, Run, order_of}
 use Rattle.mw_cli.specs.Headline.{run_of, Prints, SpellsRun}
 use Rattle.mw_cli.specs.Verdict.{TextOf, first_of, run_by, verdict_of, unless_too_large, unless_unbuilt}
-use Rattle.mw_cli.specs.Outside.{Took}
+use Rattle.mw_cli.specs.Outside.{Took, TookFront}
 use Rattle.mw_cli.specs.Answers.{Call, Answers}
 use Rattle.mw_cli.specs.Stages.{IsContent}
-use Rattle.mw_cli.proofs.EachStatus.{done-run}
+use Rattle.mw_cli.proofs.EachStatus.{done-run, cut-run}
 
 -- the text's events, its end, and the state that the events leave of the image at n, are a run of the image to n, and the
 -- text is theirs, with the dump
@@ -45,4 +45,10 @@ verdict-image order contents =
 pub done-image : (call : Call) (order : RunOrder) → order_of call.words ≡ Some (Run order) → Answers call Done → (image : List ℕ) × (text : List ℕ) × IsContent call.host order.image image × SpellsImage image order.cycles order.dump text × Took call.out text
 done-image call order asked a =
     let (image, text, content, spells, took) = done-run call order asked a in
+    (image, text, content, spells-image image order.cycles order.dump text spells, took)
+
+-- and with WriteFault a front of it
+pub cut-image : (call : Call) (order : RunOrder) → order_of call.words ≡ Some (Run order) → Answers call WriteFault → (image : List ℕ) × (text : List ℕ) × IsContent call.host order.image image × SpellsImage image order.cycles order.dump text × TookFront call.out text
+cut-image call order asked a =
+    let (image, text, content, spells, took) = cut-run call order asked a in
     (image, text, content, spells-image image order.cycles order.dump text spells, took)

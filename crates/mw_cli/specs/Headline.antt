@@ -23,15 +23,15 @@ pub record AskedRun : Type 0 where
 abbrev pub run_of : List ℕ → ℕ → Option Span → AskedRun
 run_of image cycles dump = record { boot = boot_of image; cycles = cycles; dump = dump }
 
--- the text is that of this run, which has these events, this end and this last state
+-- the text is printed of this run, which has these events, this end and this last state
 pub record Prints (run : AskedRun) (text : List ℕ) (events : List Event) (end : End) (last : State) : Type 0 where
-  -- it is theirs, with the dump, and no more
+  -- it is theirs, with the dump that is asked for, and no more
   pub whole : text ≡ text_of events end last run.dump
   -- on the plain board event k has cycle k
   pub each_cycle : cycles_of events ≡ range_with_len 0 run.cycles
   -- and the run meets no instruction that isn't built
   pub built : first_unbuilt run.boot run.cycles ≡ None
 
--- the text is that of such a run
+-- the text is printed of this run, whose events and end stand in it
 abbrev pub SpellsRun : AskedRun → List ℕ → Type 0
 SpellsRun run text = OnRun run.boot run.cycles text (Prints run text)

@@ -17,7 +17,8 @@ pub struct State {
 }
 
 impl State {
-    /// A state with the registers as they are at the start, and this RAM and these devices.
+    /// A state with the registers of the machine's start, and this RAM and these devices as they are. It takes no
+    /// memory, and can't fail.
     pub fn new(ram: Ram, devices: Devices) -> State
         ensures { result ≡ record { regs = start_regs; ram = ram; devices = devices } }
     {
@@ -28,7 +29,7 @@ impl State {
         }
     }
 
-    /// The effective address of the next instruction.
+    /// The effective address of the next instruction, in bytes.
     pub fn cia(&self) -> u64
         ensures { result ≡ self.now.regs.cia }
     {
