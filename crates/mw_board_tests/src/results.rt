@@ -960,7 +960,7 @@ fn retires(state: &mut State, row: &Row) -> bool {
     match prepare(state) {
         None => false,
         Some(prepared) => {
-            carry_out(state, &prepared);
+            carry_out(state, prepared);
             true
         }
     }
