@@ -14,6 +14,8 @@ mod encode;
 #[cfg(test)]
 mod io;
 #[cfg(test)]
+mod muldiv;
+#[cfg(test)]
 mod operands;
 #[cfg(test)]
 mod prefix;

@@ -1069,8 +1069,14 @@ const SHIFT: &[u32] = &[
     0x4800_0000,
 ];
 
+// li r3,1; rldicr r3,r3,63,0; li r4,-1; divdo r5,r3,r4; li r6,0; divdo r7,r3,r6; b .
+const DIVIDE: &[u32] = &[0x3860_0001, 0x7863_f806, 0x3880_ffff, 0x7ca3_27d2, 0x38c0_0000, 0x7ce3_37d2, 0x4800_0000];
+
+// li r3,-4; rldicl r3,r3,0,1; li r4,2; mulldo. r5,r3,r4; li r6,-7; divwo. r7,r6,r4; b .
+const MULTIPLY: &[u32] = &[0x3860_fffc, 0x7863_0040, 0x3880_0002, 0x7ca3_25d3, 0x38c0_fff9, 0x7ce6_27d7, 0x4800_0000];
+
 #[rattlefmt::skip]
-static PROGRAMS: [Program; 14] = [
+static PROGRAMS: [Program; 17] = [
     Program(SUM, 3, 0x2004_0000, 0x2000_0000, &[(5, 0)]),
     Program(SUM, 6, 0, 0x2000_0000, &[(8, 2)]),
     Program(SUM, 7, 0x2004_0000, 0x2000_0000, &[(9, 0)]),
@@ -1083,6 +1089,9 @@ static PROGRAMS: [Program; 14] = [
     Program(OVERFLOW, 12, 0xc000_0000, 0x9000_0000, &[(7, 0), (10, 0), (11, 0x8000_0000_0000_0000)]),
     Program(ROTATE, 16, 0, 0, &[(3, 0x1234_5677_9be0_5678), (4, 0x5678_009b), (5, 0xbe05_6789_b000_0009), (6, 0x123),
         (7, 0x3456_0000_0000_0000), (8, 0x5_6780), (10, 0x81), (11, 0xbe05_6789), (12, 0x2300_0000_0000_0000)]),
+    Program(DIVIDE, 9, 0xc008_0000, 0, &[(3, 0x8000_0000_0000_0000), (5, 0), (7, 0)]),
+    Program(MULTIPLY, 4, 0xc008_0000, 0x9000_0000, &[(5, 0xffff_ffff_ffff_fff8)]),
+    Program(MULTIPLY, 6, 0x8000_0000, 0x5000_0000, &[(7, 0xffff_fffd)]),
     Program(SHIFT, 4, 0x2004_0000, 0, &[(5, 0xffff_ffff_c000_0000)]),
     Program(SHIFT, 11, 0x2004_0000, 0x8000_0000, &[(12, 0xffff_ffff_ffff_ffff)]),
     Program(SHIFT, 15, 0, 0x8000_0000, &[(5, 0xffff_ffff_c000_0000), (6, 0xffff_ffff_ffff_ffff), (7, 0xffff_ffff_ffff_ffff), (8, 0), (9, 0), (10, 0x2_0000_0000),
