@@ -10,8 +10,6 @@ mod isa;
 #[cfg(test)]
 mod loadstore;
 #[cfg(test)]
-mod results;
-#[cfg(test)]
 mod runs;
 #[cfg(test)]
 mod storage;
@@ -19,5 +17,3 @@ mod storage;
 mod stretches;
 #[cfg(test)]
 mod trace;
-#[cfg(test)]
-mod units;

@@ -1070,10 +1070,26 @@ const SHIFT: &[u32] = &[
 ];
 
 // li r3,1; rldicr r3,r3,63,0; li r4,-1; divdo r5,r3,r4; li r6,0; divdo r7,r3,r6; b .
-const DIVIDE: &[u32] = &[0x3860_0001, 0x7863_f806, 0x3880_ffff, 0x7ca3_27d2, 0x38c0_0000, 0x7ce3_37d2, 0x4800_0000];
+const DIVIDE: &[u32] = &[
+    0x3860_0001,
+    0x7863_f806,
+    0x3880_ffff,
+    0x7ca3_27d2,
+    0x38c0_0000,
+    0x7ce3_37d2,
+    0x4800_0000,
+];
 
 // li r3,-4; rldicl r3,r3,0,1; li r4,2; mulldo. r5,r3,r4; li r6,-7; divwo. r7,r6,r4; b .
-const MULTIPLY: &[u32] = &[0x3860_fffc, 0x7863_0040, 0x3880_0002, 0x7ca3_25d3, 0x38c0_fff9, 0x7ce6_27d7, 0x4800_0000];
+const MULTIPLY: &[u32] = &[
+    0x3860_fffc,
+    0x7863_0040,
+    0x3880_0002,
+    0x7ca3_25d3,
+    0x38c0_fff9,
+    0x7ce6_27d7,
+    0x4800_0000,
+];
 
 #[rattlefmt::skip]
 static PROGRAMS: [Program; 17] = [
