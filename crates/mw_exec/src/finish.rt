@@ -1,8 +1,7 @@
-ghost use Rattle.std.specs.Prelude.{◌≡◌, negsuc, pos};
-ghost use Rattle.mw_alu.specs.Sums.{is_outside};
+ghost use Rattle.std.specs.Prelude.{◌≡◌};
 ghost use Rattle.mw_muldiv.specs.Wide.{number_of};
 ghost use Rattle.mw_isa.specs.Finish.{bits_behind, finished, finished_by};
-ghost use Rattle.mw_isa.specs.Long.{given, half_of, high_of, overflows_product, product_out, quotient_out};
+ghost use Rattle.mw_isa.specs.Long.{given, half_of, high_of, is_too_wide, overflows_product, product_out, quotient_out};
 
 use crate::ending::{push_field, push_xer, with_overflows, with_summary};
 use arrayvec::ArrayVec;
@@ -37,18 +36,15 @@ fn half_of(high: bool, word: bool, wide: Wide128) -> u64
     if high { high_of(word, wide) } else { wide.low }
 }
 
-/// Whether a signed number doesn't fit 32 bits.
-fn is_past_word(number: i64) -> bool
-    ensures { result ≡ is_outside (negsuc 0x7FFF_FFFF) (pos 0x7FFF_FFFF) number }
+/// Whether a signed number doesn't fit 64 bits, or where words are asked 32.
+fn is_too_wide(word: bool, number: i128) -> bool
+    ensures { result ≡ is_too_wide word number }
 {
-    !(-0x8000_0000 <= number && number <= 0x7fff_ffff)
-}
-
-/// Whether a signed number doesn't fit 64 bits.
-fn is_past_doubleword(number: i128) -> bool
-    ensures { result ≡ is_outside (negsuc 0x7FFF_FFFF_FFFF_FFFF) (pos 0x7FFF_FFFF_FFFF_FFFF) number }
-{
-    !(-0x8000_0000_0000_0000 <= number && number <= 0x7fff_ffff_ffff_ffff)
+    if word {
+        !(-0x8000_0000 <= number && number <= 0x7fff_ffff)
+    } else {
+        !(-0x8000_0000_0000_0000 <= number && number <= 0x7fff_ffff_ffff_ffff)
+    }
 }
 
 /// Two halves as one number.
@@ -62,11 +58,7 @@ fn number_of(wide: Wide128) -> u128
 fn overflows_product(word: bool, wide: Wide128) -> bool
     ensures { result ≡ overflows_product word wide }
 {
-    if word {
-        is_past_word(wide.low.cast_signed())
-    } else {
-        is_past_doubleword(number_of(wide).cast_signed())
-    }
+    is_too_wide(word, number_of(wide).cast_signed())
 }
 
 /// What a product row gives, from what the multiplier answered, by the fields of its `LongOp` (Book I,

@@ -1,7 +1,8 @@
--- What holds of each row of the table, of registers by name, of a step, of a replay, of a run's text and of an access.
+-- What holds of each row of the table, of registers by name, of products, of a step, of a replay, of a run's text and of an access.
 pub mod SlotLaws
 pub mod RowLaws
 pub mod ReadLaws
+pub mod LongLaws
 pub mod StepLaws
 pub mod ReplayLaws
 pub mod RunLaws

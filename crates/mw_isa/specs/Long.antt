@@ -1,5 +1,5 @@
 -- The numbers that products and quotients begin with, and what they give (Book I, fixed-point arithmetic instructions).
-use Rattle.std.specs.Prelude.{ℕ, ◌≡◌, ◌*◌, ◌-◌, ◌/◌, ◌%◌, ◌^◌, Bool, true, false, if◌then◌else◌, pos, negsuc, int_lt}
+use Rattle.std.specs.Prelude.{ℕ, ◌≡◌, ◌*◌, ◌-◌, ◌/◌, ◌%◌, ◌^◌, Bool, true, false, if◌then◌else◌, ℤ, pos, negsuc, int_lt}
 use Rattle.std.specs.Int.{w64, w128, cast_signed}
 use Rattle.mw_alu.specs.declared.op.AluOut.{AluOut}
 use Rattle.mw_alu.specs.Sums.{is_outside}
@@ -79,10 +79,14 @@ high_of word wide = if word then wide.low / 2 ^ 32 else wide.high
 abbrev pub half_of : Bool → Bool → Wide128 → ℕ
 half_of high word wide = if high then high_of word wide else wide.low
 
+-- a signed number doesn't fit 64 bits, or where words are asked 32
+abbrev pub is_too_wide : Bool → ℤ → Bool
+is_too_wide word z =
+    if word then is_outside (negsuc 0x7FFF_FFFF) (pos 0x7FFF_FFFF) z else is_outside (negsuc 0x7FFF_FFFF_FFFF_FFFF) (pos 0x7FFF_FFFF_FFFF_FFFF) z
+
 -- a signed product doesn't fit 64 bits; of words it doesn't fit 32
 abbrev pub overflows_product : Bool → Wide128 → Bool
-overflows_product word wide =
-    if word then is_outside (negsuc 0x7FFF_FFFF) (pos 0x7FFF_FFFF) (cast_signed w64 wide.low) else is_outside (negsuc 0x7FFF_FFFF_FFFF_FFFF) (pos 0x7FFF_FFFF_FFFF_FFFF) (cast_signed w128 (number_of wide))
+overflows_product word wide = is_too_wide word (cast_signed w128 (number_of wide))
 
 -- what a product row gives, from what the multiplier answered
 abbrev pub product_out : Bool → Bool → Wide128 → AluOut
