@@ -29,7 +29,6 @@ fn operations_go_by_the_table(rt: HostRuntime) {
         (10, "ori", alu(AluOp::Ori, Inputs::SourceNumber)),
         (17, "b", Operation::Branch(BranchRow::B)),
         (43, "add", alu(AluOp::Add, Inputs::Two)),
-        (44, "subf", alu(AluOp::Subf, Inputs::Two)),
         (6, "cmpi", Operation::Later),
         (212, "paddi", alu(AluOp::Paddi, Inputs::Relative)),
         (223, "pnop", Operation::Hint),

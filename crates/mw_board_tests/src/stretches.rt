@@ -52,6 +52,7 @@ fn marked(alloc: Global) -> Result<Ram, NoMemory> {
     for byte in 0x20..0x30 {
         image.push(byte)?;
     }
+    image.resize(0x6000, 0)?;
     Ram::new(alloc, image.as_slice())
 }
 
