@@ -1,5 +1,5 @@
 -- Quotients bit by bit, and their signs.
-use Rattle.std.proofs.Common.{◌≡◌, ℕ, zero, suc, ◌+◌, ◌-◌, ◌*◌, ◌/◌, ◌%◌, ◌^◌, ◌<◌, ◌≤◌, refl, sym, ap, subst, ◌∙◌, arith, ◌⊎◌, inl, inr}
+use Rattle.std.proofs.Common.{◌≡◌, ℕ, zero, suc, ◌+◌, ◌-◌, ◌*◌, ◌/◌, ◌%◌, ◌^◌, ◌<◌, ◌≤◌, refl, sym, ap, ◌∙◌, arith, ◌⊎◌, inl, inr}
 use Rattle.std.specs.Prelude.{Bool, true, false, ℤ, pos, negsuc, int_div, int_rem, unsigned_abs, if◌then◌else◌, ◌==◌, nat_lt, Some, None}
 use Rattle.std.proofs.lemmas.Bool.{cases_lt}
 use Rattle.std.proofs.Math.Nat.{eq-zero-or-pos}
@@ -12,32 +12,7 @@ use Rattle.mw_muldiv.specs.declared.numbers.DivOut.{DivOut}
 use Rattle.mw_muldiv.specs.declared.numbers.DivOut.TheVariants.{Done, NoQuotient}
 use Rattle.mw_muldiv.specs.declared.divider.Div.TheInside.{Inside}
 use Rattle.mw_muldiv.specs.Division.{dividend_of, divisor_of, fits, bits_of, settled, divided, quotient_of, quotient_at}
-use Rattle.mw_muldiv.specs.DivInside.{division_of, is_negative, signed_of, differ, next_bit, with_bit, outcome_of, IsDivided}
-
--- quotient and rest with a bit more
-record Added (p q : Partial) (bit divisor : ℕ) : Type 0 where
-  is_sum : q.quotient * divisor + q.rest ≡ 2 * (p.quotient * divisor + p.rest) + bit
-  below : q.rest < divisor
-  few : q.quotient ≤ 2 * p.quotient + 1
-
--- the divisor isn't in it
-doubled : (p : Partial) (bit divisor : ℕ) → p.rest < divisor → 2 * p.rest + bit < divisor → with_bit p bit divisor ≡ record { quotient = 2 * p.quotient; rest = 2 * p.rest + bit }
-doubled p bit divisor below less = grind (arith, nat_tests)
-
--- the divisor is in it
-subtracted : (p : Partial) (bit divisor : ℕ) → p.rest < divisor → divisor ≤ 2 * p.rest + bit → with_bit p bit divisor ≡ record { quotient = 2 * p.quotient + 1; rest = 2 * p.rest + bit - divisor }
-subtracted p bit divisor below more = grind (arith, nat_tests)
-
--- either way, where the rest is below the divisor, the bit is added
-added : (p : Partial) (bit divisor : ℕ) → bit < 2 → p.rest < divisor → (2 * p.rest + bit < divisor) ⊎ (divisor ≤ 2 * p.rest + bit) → Added p (with_bit p bit divisor) bit divisor
-added p bit divisor small below (inl less) =
-    subst (λ (q : Partial). Added p q bit divisor) (sym (doubled p bit divisor below less)) (record { is_sum = omega arith; below = less; few = omega arith })
-added p bit divisor small below (inr more) =
-    subst (λ (q : Partial). Added p q bit divisor) (sym (subtracted p bit divisor below more)) (record { is_sum = omega arith; below = omega arith; few = omega arith })
-
--- elsewhere they stay
-kept : (p : Partial) (bit divisor : ℕ) → divisor ≤ p.rest → with_bit p bit divisor ≡ p
-kept p bit divisor above = grind (arith, nat_tests)
+use Rattle.mw_muldiv.specs.DivInside.{division_of, is_negative, signed_of, differ, next_bit, HasBitMore, outcome_of, IsDivided}
 
 -- the dividend's bits with one more
 bits-more : (size ticks : ℕ) → ticks < 64 → size / 2 ^ (64 - (ticks + 1)) ≡ 2 * (size / 2 ^ (64 - ticks)) + next_bit size ticks
@@ -47,52 +22,43 @@ bits-more size ticks under =
     let half : size / 2 ^ (64 - ticks) ≡ size / 2 ^ (63 - ticks) / 2 = ap (λ i. size / 2 ^ i) more ∙ sym (shr-shr size (63 - ticks) 1) in
     ap (λ i. size / 2 ^ i) left ∙ omega (arith, half)
 
--- the next bit is one
-next_bit-lt : (size ticks : ℕ) → next_bit size ticks < 2
-next_bit-lt size ticks = omega arith
-
 -- a division with a tick more
-abbrev pub stepped : Inside → Inside
-stepped d =
-    record d { ticks = d.ticks + 1; so_far = with_bit d.so_far (next_bit d.dividend_size d.ticks) d.divisor_size }
+abbrev pub stepped : Inside → Partial → Inside
+stepped d next = record d { ticks = d.ticks + 1; so_far = next }
 
--- a tick more where the rest is below the divisor
-divided-below : (d : Inside) → d.ticks < 64 → d.so_far.rest < d.divisor_size → IsDivided d → IsDivided (stepped d)
-divided-below d under below before =
-    let bit = next_bit d.dividend_size d.ticks in
-    let next = with_bit d.so_far bit d.divisor_size in
-    let more : Added d.so_far next bit d.divisor_size = added d.so_far bit d.divisor_size (next_bit-lt d.dividend_size d.ticks) below (cases_lt (2 * d.so_far.rest + bit) d.divisor_size) in
+-- where the rest is below the divisor it is as far as its ticks say again
+divided-below : (d : Inside) (next : Partial) (bit : ℕ) → d.ticks < 64 → bit ≡ next_bit d.dividend_size d.ticks → HasBitMore d.so_far next bit d.divisor_size → d.so_far.rest < d.divisor_size → IsDivided d → IsDivided (stepped d next)
+divided-below d next bit under is more below before =
     let power : 2 ^ (d.ticks + 1) ≡ 2 ^ d.ticks * 2 = pow-add 2 d.ticks 1 in
     record {
       dividend_is = before.dividend_is;
       divisor_is = before.divisor_is;
       few_bits = omega (arith, power, before.few_bits, more.few);
-      small = λ fits. more.below;
-      whole = λ fits. omega (arith, more.is_sum, before.whole below, bits-more d.dividend_size d.ticks under);
+      small = λ fits. more.below below;
+      whole = λ fits. omega (arith, is, more.is_sum below, before.whole below, bits-more d.dividend_size d.ticks under);
     }
 
--- a tick more elsewhere
-divided-above : (d : Inside) → d.ticks < 64 → d.divisor_size ≤ d.so_far.rest → IsDivided d → IsDivided (stepped d)
-divided-above d under above before =
-    let same : with_bit d.so_far (next_bit d.dividend_size d.ticks) d.divisor_size ≡ d.so_far = kept d.so_far (next_bit d.dividend_size d.ticks) d.divisor_size above in
+-- elsewhere too
+divided-above : (d : Inside) (next : Partial) (bit : ℕ) → HasBitMore d.so_far next bit d.divisor_size → d.divisor_size ≤ d.so_far.rest → IsDivided d → IsDivided (stepped d next)
+divided-above d next bit more above before =
     let power : 2 ^ (d.ticks + 1) ≡ 2 ^ d.ticks * 2 = pow-add 2 d.ticks 1 in
+    let rest : next.rest ≡ d.so_far.rest = ap (λ (p : Partial). p.rest) (more.stays above) in
     record {
       dividend_is = before.dividend_is;
       divisor_is = before.divisor_is;
-      few_bits = omega (arith, power, before.few_bits, ap (λ (p : Partial). p.quotient) same);
+      few_bits = omega (arith, power, before.few_bits, more.few);
       small = λ fits. absurd (omega (arith, before.small fits, above));
-      whole = λ fits. absurd (omega (arith, fits, above, ap (λ (p : Partial). p.rest) same));
+      whole = λ fits. absurd (omega (arith, fits, above, rest));
     }
 
--- either way it is as far as its ticks say again
-divided-either : (d : Inside) → d.ticks < 64 → IsDivided d → (d.so_far.rest < d.divisor_size) ⊎ (d.divisor_size ≤ d.so_far.rest) → IsDivided (stepped d)
-divided-either d under before (inl below) = divided-below d under below before
-divided-either d under before (inr above) = divided-above d under above before
+-- so it is wherever the rest is
+divided-either : (d : Inside) (next : Partial) (bit : ℕ) → d.ticks < 64 → bit ≡ next_bit d.dividend_size d.ticks → HasBitMore d.so_far next bit d.divisor_size → IsDivided d → (d.so_far.rest < d.divisor_size) ⊎ (d.divisor_size ≤ d.so_far.rest) → IsDivided (stepped d next)
+divided-either d next bit under is more before (inl below) = divided-below d next bit under is more below before
+divided-either d next bit under is more before (inr above) = divided-above d next bit more above before
 
-pub divided-more : (d : Inside) (next : Partial) (bit : ℕ) → d.ticks < 64 → bit ≡ next_bit d.dividend_size d.ticks → next ≡ with_bit d.so_far bit d.divisor_size → IsDivided d → IsDivided (record d { ticks = d.ticks + 1; so_far = next })
-divided-more d next bit under is_bit is_next before =
-    let same : with_bit d.so_far (next_bit d.dividend_size d.ticks) d.divisor_size ≡ next = sym (is_next ∙ ap (λ i. with_bit d.so_far i d.divisor_size) is_bit) in
-    subst (λ (p : Partial). IsDivided (record d { ticks = d.ticks + 1; so_far = p })) same (divided-either d under before (cases_lt d.so_far.rest d.divisor_size))
+pub divided-more : (d : Inside) (next : Partial) (bit : ℕ) → d.ticks < 64 → bit ≡ next_bit d.dividend_size d.ticks → HasBitMore d.so_far next bit d.divisor_size → IsDivided d → IsDivided (stepped d next)
+divided-more d next bit under is more before =
+    divided-either d next bit under is more before (cases_lt d.so_far.rest d.divisor_size)
 
 -- a quotient by the signs of its numbers
 signed-quotient : (n d : ℤ) → int_div n d ≡ signed_of (differ (is_negative n) (is_negative d)) (unsigned_abs n / unsigned_abs d)

@@ -1,5 +1,5 @@
 -- What a division keeps to itself while it is under way. No public clause names it.
-use Rattle.std.specs.Prelude.{◌≡◌, ℕ, ◌+◌, ◌-◌, ◌*◌, ◌/◌, ◌%◌, ◌^◌, ◌<◌, Bool, true, false, not, if◌then◌else◌, nat_lt, ℤ, pos, negsuc, neg_ℤ, unsigned_abs}
+use Rattle.std.specs.Prelude.{◌≡◌, ℕ, ◌+◌, ◌-◌, ◌*◌, ◌/◌, ◌%◌, ◌^◌, ◌<◌, ◌≤◌, Bool, true, false, not, if◌then◌else◌, nat_lt, ℤ, pos, negsuc, neg_ℤ, unsigned_abs}
 use Rattle.mw_muldiv.specs.declared.numbers.Wide128.{Wide128}
 use Rattle.mw_muldiv.specs.declared.steps.Partial.{Partial}
 use Rattle.mw_muldiv.specs.declared.numbers.DivKind.{DivKind}
@@ -32,14 +32,14 @@ differ true sign = not sign
 abbrev pub next_bit : ℕ → ℕ → ℕ
 next_bit size ticks = size / 2 ^ (63 - ticks) % 2
 
--- quotient and rest with a bit of the dividend more; nothing is done where the rest isn't below the divisor
-abbrev pub with_bit : Partial → ℕ → ℕ → Partial
-with_bit p bit divisor =
-    if nat_lt p.rest divisor
-    then if nat_lt (2 * p.rest + bit) divisor
-    then record { quotient = 2 * p.quotient; rest = 2 * p.rest + bit }
-    else record { quotient = 2 * p.quotient + 1; rest = 2 * p.rest + bit - divisor }
-    else p
+-- quotient and rest are these with a bit of the dividend more
+pub record HasBitMore (p q : Partial) (bit divisor : ℕ) : Type 0 where
+  -- where the rest isn't below the divisor, nothing is done
+  pub stays : divisor ≤ p.rest → q ≡ p
+  -- elsewhere they make twice what they made, and the bit, and the rest is below the divisor again
+  pub is_sum : p.rest < divisor → q.quotient * divisor + q.rest ≡ 2 * (p.quotient * divisor + p.rest) + bit
+  pub below : p.rest < divisor → q.rest < divisor
+  pub few : q.quotient ≤ 2 * p.quotient + 1
 
 -- all bits that the kind's results have
 abbrev pub ones_of : DivKind → ℕ
@@ -47,17 +47,6 @@ ones_of Signed64 = 0xFFFF_FFFF_FFFF_FFFF
 ones_of Unsigned64 = 0xFFFF_FFFF_FFFF_FFFF
 ones_of Signed32 = 0xFFFF_FFFF
 ones_of Unsigned32 = 0xFFFF_FFFF
-
--- the largest quotient with this sign that fits, without its sign
-abbrev pub largest : DivKind → Bool → ℕ
-largest Signed64 false = 0x7FFF_FFFF_FFFF_FFFF
-largest Signed64 true = 0x8000_0000_0000_0000
-largest Signed32 false = 0x7FFF_FFFF
-largest Signed32 true = 0x8000_0000
-largest Unsigned64 false = 0xFFFF_FFFF_FFFF_FFFF
-largest Unsigned64 true = 0
-largest Unsigned32 false = 0xFFFF_FFFF
-largest Unsigned32 true = 0
 
 -- what it comes to, by quotient and rest without signs: where the rest isn't below the divisor there is no quotient
 -- of 64 bits

@@ -1,6 +1,6 @@
 ghost use Rattle.std.specs.Prelude.{◌≡◌, ◌≤◌, unsigned_abs};
-ghost use Rattle.mw_muldiv.specs.Division.{bits_of, dividend_of, divisor_of, settled};
-ghost use Rattle.mw_muldiv.specs.DivInside.{is_negative, largest, ones_of, outcome_of, signed_of};
+ghost use Rattle.mw_muldiv.specs.Division.{bits_of, dividend_of, divisor_of, fits, settled};
+ghost use Rattle.mw_muldiv.specs.DivInside.{is_negative, ones_of, outcome_of, signed_of};
 
 use crate::numbers::{DivKind, DivOut, Wide128, number_of};
 use crate::steps::Partial;
@@ -62,18 +62,18 @@ fn ones_of(kind: DivKind) -> u64
     }
 }
 
-/// The largest quotient with this sign that fits, without its sign.
-fn largest(kind: DivKind, negative: bool) -> u64
-    ensures { result ≡ largest kind negative }
+/// Whether a quotient of this sign and size fits.
+fn fits(kind: DivKind, negative: bool, size: u64) -> bool
+    ensures { result ≡ fits kind (signed_of negative size) }
 {
     match (kind, negative) {
-        (DivKind::Signed64, false) => 0x7fff_ffff_ffff_ffff,
-        (DivKind::Signed64, true) => 0x8000_0000_0000_0000,
-        (DivKind::Signed32, false) => 0x7fff_ffff,
-        (DivKind::Signed32, true) => 0x8000_0000,
-        (DivKind::Unsigned64, false) => 0xffff_ffff_ffff_ffff,
-        (DivKind::Unsigned32, false) => 0xffff_ffff,
-        (DivKind::Unsigned64 | DivKind::Unsigned32, true) => 0,
+        (DivKind::Signed64, false) => size <= 0x7fff_ffff_ffff_ffff,
+        (DivKind::Signed64, true) => size <= 0x8000_0000_0000_0000,
+        (DivKind::Signed32, false) => size <= 0x7fff_ffff,
+        (DivKind::Signed32, true) => size <= 0x8000_0000,
+        (DivKind::Unsigned64, false) => true,
+        (DivKind::Unsigned32, false) => size <= 0xffff_ffff,
+        (DivKind::Unsigned64 | DivKind::Unsigned32, true) => size == 0,
     }
 }
 
@@ -94,7 +94,7 @@ fn settled(kind: DivKind, quotient_negative: bool, negative: bool, so_far: Parti
     requires { so_far.rest ≤ ones_of kind }
     ensures { result ≡ settled kind (signed_of quotient_negative so_far.quotient) (signed_of negative so_far.rest) }
 {
-    if so_far.quotient <= largest(kind, quotient_negative) {
+    if fits(kind, quotient_negative, so_far.quotient) {
         DivOut::Done {
             quotient: bits_of(kind, quotient_negative, so_far.quotient),
             rest: bits_of(kind, negative, so_far.rest),

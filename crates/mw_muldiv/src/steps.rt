@@ -1,5 +1,5 @@
 ghost use Rattle.std.specs.Prelude.{◌≡◌, ◌^◌, ◌<◌};
-ghost use Rattle.mw_muldiv.specs.DivInside.{next_bit, with_bit};
+ghost use Rattle.mw_muldiv.specs.DivInside.{HasBitMore, next_bit};
 
 /// Quotient and rest of a division without signs.
 #[derive(Clone, Copy, Debug, PartialEq, Eq)]
@@ -24,7 +24,7 @@ pub fn next_bit(dividend_size: u128, ticks: u32) -> u64
 pub fn with_bit(so_far: Partial, bit: u64, divisor_size: u64) -> Partial
     requires bit { bit < 2 }
     requires room { so_far.quotient < 2 ^ 63 }
-    ensures { result ≡ with_bit so_far bit divisor_size }
+    ensures { HasBitMore so_far result bit divisor_size }
 {
     if so_far.rest >= divisor_size {
         return so_far;
