@@ -1,5 +1,5 @@
 -- What a division keeps to itself while it is under way. No public clause names it.
-use Rattle.std.specs.Prelude.{◌≡◌, ℕ, ◌+◌, ◌-◌, ◌*◌, ◌/◌, ◌%◌, ◌^◌, ◌<◌, ◌≤◌, Bool, true, false, not, if◌then◌else◌, nat_lt, ℤ, pos, negsuc, neg_ℤ, unsigned_abs}
+use Rattle.std.specs.Prelude.{◌≡◌, ℕ, ◌+◌, ◌-◌, ◌*◌, ◌/◌, ◌%◌, ◌^◌, ◌<◌, Bool, true, false, not, if◌then◌else◌, nat_lt, ℤ, pos, negsuc, neg_ℤ, unsigned_abs}
 use Rattle.mw_muldiv.specs.declared.numbers.Wide128.{Wide128}
 use Rattle.mw_muldiv.specs.declared.steps.Partial.{Partial}
 use Rattle.mw_muldiv.specs.declared.numbers.DivKind.{DivKind}
@@ -28,18 +28,12 @@ abbrev pub differ : Bool → Bool → Bool
 differ false sign = sign
 differ true sign = not sign
 
--- the dividend's bit that a tick takes, the highest of the low 64 first
-abbrev pub next_bit : ℕ → ℕ → ℕ
-next_bit size ticks = size / 2 ^ (63 - ticks) % 2
-
--- quotient and rest are these with a bit of the dividend more
-pub record HasBitMore (p q : Partial) (bit divisor : ℕ) : Type 0 where
-  -- where the rest isn't below the divisor, nothing is done
-  pub stays : divisor ≤ p.rest → q ≡ p
-  -- elsewhere they make twice what they made, and the bit, and the rest is below the divisor again
-  pub is_sum : p.rest < divisor → q.quotient * divisor + q.rest ≡ 2 * (p.quotient * divisor + p.rest) + bit
-  pub below : p.rest < divisor → q.rest < divisor
-  pub few : q.quotient ≤ 2 * p.quotient + 1
+-- what is found with a bit of the dividend more, which is the left one of the low bits: the quotient's bit goes behind
+-- them. Where the rest isn't below the divisor nothing is done
+abbrev pub with_bit : Partial → ℕ → Partial
+with_bit p divisor =
+    let number = 2 * p.rest + p.low / 2 ^ 63 in
+    if nat_lt p.rest divisor then record { rest = number % divisor; low = p.low * 2 % 2 ^ 64 + number / divisor } else p
 
 -- all bits that the kind's results have
 abbrev pub ones_of : DivKind → ℕ
@@ -48,21 +42,23 @@ ones_of Unsigned64 = 0xFFFF_FFFF_FFFF_FFFF
 ones_of Signed32 = 0xFFFF_FFFF
 ones_of Unsigned32 = 0xFFFF_FFFF
 
--- what it comes to, by quotient and rest without signs: where the rest isn't below the divisor there is no quotient
--- of 64 bits
+-- what it comes to, by what was found: where the rest isn't below the divisor there is no quotient of 64 bits
 abbrev pub outcome_of : DivKind → Wide128 → ℕ → Partial → DivOut
 outcome_of kind dividend divisor p =
     let n = dividend_of kind dividend in
     let d = divisor_of kind divisor in
-    if nat_lt p.rest (unsigned_abs d) then settled kind (signed_of (differ (is_negative n) (is_negative d)) p.quotient) (signed_of (is_negative n) p.rest) else NoQuotient
+    if nat_lt p.rest (unsigned_abs d) then settled kind (signed_of (differ (is_negative n) (is_negative d)) p.low) (signed_of (is_negative n) p.rest) else NoQuotient
+
+-- the dividend without its sign
+abbrev pub size_of : Inside → ℕ
+size_of d = unsigned_abs (dividend_of d.kind d.dividend)
 
 -- it is as far as its ticks say
 pub record IsDivided (d : Inside) : Type 0 where
-  pub dividend_is : d.dividend_size ≡ unsigned_abs (dividend_of d.kind d.dividend)
   pub divisor_is : d.divisor_size ≡ unsigned_abs (divisor_of d.kind d.divisor)
-  -- a bit of the quotient was found in each tick
-  pub few_bits : d.so_far.quotient < 2 ^ d.ticks
   -- the rest is below the divisor where the quotient has at most 64 bits
-  pub small : d.dividend_size < d.divisor_size * 2 ^ 64 → d.so_far.rest < d.divisor_size
-  -- then the dividend's bits so far are the quotient times the divisor, and the rest
-  pub whole : d.so_far.rest < d.divisor_size → d.so_far.quotient * d.divisor_size + d.so_far.rest ≡ d.dividend_size / 2 ^ (64 - d.ticks)
+  pub small : size_of d < d.divisor_size * 2 ^ 64 → d.so_far.rest < d.divisor_size
+  -- then the low bits are those that weren't taken yet, and a bit of the quotient for each tick
+  pub low_is : d.so_far.rest < d.divisor_size → d.so_far.low ≡ size_of d % 2 ^ (64 - d.ticks) * 2 ^ d.ticks + d.so_far.low % 2 ^ d.ticks
+  -- and those that were taken are the quotient times the divisor, and the rest
+  pub whole : d.so_far.rest < d.divisor_size → d.so_far.low % 2 ^ d.ticks * d.divisor_size + d.so_far.rest ≡ size_of d / 2 ^ (64 - d.ticks)

@@ -1,9 +1,9 @@
 ghost use Rattle.std.specs.Prelude.{◌≡◌, ◌+◌, ◌<◌};
 ghost use Rattle.mw_muldiv.specs.Division.{quotient_at};
 
-use crate::numbers::{DivKind, DivOut, Wide128};
+use crate::numbers::{DivKind, DivOut, Wide128, halves_of};
 use crate::signs::{dividend_size, divisor_size, outcome_of};
-use crate::steps::{Partial, next_bit, with_bit};
+use crate::steps::{Partial, with_bit};
 use std::marker::Model;
 
 /// A division under way. Clauses see the numbers that it was started with, and the ticks done.
@@ -17,11 +17,9 @@ pub struct Div {
     divisor: u64,
     /// How many ticks were done.
     ticks: u32,
-    /// The dividend as a number, without its sign.
-    dividend_size: u128,
     /// The divisor as a number, without its sign.
     divisor_size: u64,
-    /// Quotient and rest of the dividend's bits so far.
+    /// What was found so far.
     so_far: Partial,
 }
 
@@ -44,17 +42,16 @@ impl Div {
     pub fn start(kind: DivKind, dividend: Wide128, divisor: u64) -> Div
         ensures { result ≡ record { kind = kind; dividend = dividend; divisor = divisor; ticks = 0 } }
     {
-        let size = dividend_size(kind, dividend);
+        let size = halves_of(dividend_size(kind, dividend));
         Div {
             kind,
             dividend,
             divisor,
             ticks: 0,
-            dividend_size: size,
             divisor_size: divisor_size(kind, divisor),
             so_far: Partial {
-                quotient: 0,
-                rest: (size >> 64) as u64,
+                rest: size.high,
+                low: size.low,
             },
         }
     }
@@ -69,8 +66,7 @@ impl Div {
         ensures counts { self.new ≡ record self.old { ticks = self.old.ticks + 1 } }
     {
         if self.ticks < 64 {
-            let bit = next_bit(self.dividend_size, self.ticks);
-            self.so_far = with_bit(self.so_far, bit, self.divisor_size);
+            self.so_far = with_bit(self.so_far, self.divisor_size);
             self.ticks += 1;
             None
         } else {

@@ -92,11 +92,11 @@ fn bits_of(kind: DivKind, negative: bool, size: u64) -> u64
 /// Quotient and rest with the quotient's and the dividend's sign, if the quotient fits.
 fn settled(kind: DivKind, quotient_negative: bool, negative: bool, so_far: Partial) -> DivOut
     requires { so_far.rest ≤ ones_of kind }
-    ensures { result ≡ settled kind (signed_of quotient_negative so_far.quotient) (signed_of negative so_far.rest) }
+    ensures { result ≡ settled kind (signed_of quotient_negative so_far.low) (signed_of negative so_far.rest) }
 {
-    if fits(kind, quotient_negative, so_far.quotient) {
+    if fits(kind, quotient_negative, so_far.low) {
         DivOut::Done {
-            quotient: bits_of(kind, quotient_negative, so_far.quotient),
+            quotient: bits_of(kind, quotient_negative, so_far.low),
             rest: bits_of(kind, negative, so_far.rest),
         }
     } else {

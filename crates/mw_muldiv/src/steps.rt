@@ -1,44 +1,48 @@
-ghost use Rattle.std.specs.Prelude.{◌≡◌, ◌^◌, ◌<◌};
-ghost use Rattle.mw_muldiv.specs.DivInside.{HasBitMore, next_bit};
+ghost use Rattle.std.specs.Prelude.{◌≡◌, ◌*◌, ◌/◌, ◌%◌, ◌<◌};
+ghost use Rattle.mw_muldiv.specs.DivInside.{with_bit};
 
-/// Quotient and rest of a division without signs.
+/// What a division has found so far, without signs.
 #[derive(Clone, Copy, Debug, PartialEq, Eq)]
 pub struct Partial {
-    /// How often the divisor is in the bits so far.
-    pub quotient: u64,
-    /// What is left of them.
+    /// What is left of the dividend's bits that were taken.
     pub rest: u64,
+    /// The dividend's bits that weren't taken yet, and to their right the quotient's bits.
+    pub low: u64,
 }
 
-/// The dividend's bit that a tick takes, the highest of the low 64 first.
-pub fn next_bit(dividend_size: u128, ticks: u32) -> u64
-    requires { ticks < 64 }
-    ensures value { result ≡ next_bit dividend_size ticks }
+/// How often the divisor is in a number below twice the divisor.
+fn count_in(number: u128, divisor: u64) -> u64
+    requires { number < 2 * divisor }
+    ensures value { result ≡ number / divisor }
     ensures bit { result < 2 }
 {
-    (dividend_size >> (63 - ticks) & 1) as u64
+    if number < u128::from(divisor) { 0 } else { 1 }
 }
 
-/// Quotient and rest with a bit of the dividend more, by a subtraction where the divisor is in it. Where the
-/// rest isn't below the divisor, the quotient has more than 64 bits, and nothing is done.
-pub fn with_bit(so_far: Partial, bit: u64, divisor_size: u64) -> Partial
-    requires bit { bit < 2 }
-    requires room { so_far.quotient < 2 ^ 63 }
-    ensures { HasBitMore so_far result bit divisor_size }
+/// What is left of it then.
+fn reduced(number: u128, divisor: u64) -> u64
+    requires { number < 2 * divisor }
+    ensures { result ≡ number % divisor }
 {
-    if so_far.rest >= divisor_size {
+    if number < u128::from(divisor) {
+        number as u64
+    } else {
+        (number - u128::from(divisor)) as u64
+    }
+}
+
+/// Takes the dividend's next bit, by one subtraction where the divisor is in it, and puts a bit of the
+/// quotient behind the others. Where the rest isn't below the divisor, the quotient has more than 64 bits, and
+/// nothing is done.
+pub fn with_bit(so_far: Partial, divisor: u64) -> Partial
+    ensures { result ≡ with_bit so_far divisor }
+{
+    if so_far.rest >= divisor {
         return so_far;
     }
-    let rest = u128::from(so_far.rest) * 2 + u128::from(bit);
-    if rest < u128::from(divisor_size) {
-        Partial {
-            quotient: so_far.quotient * 2,
-            rest: rest as u64,
-        }
-    } else {
-        Partial {
-            quotient: so_far.quotient * 2 + 1,
-            rest: (rest - u128::from(divisor_size)) as u64,
-        }
+    let number = u128::from(so_far.rest) * 2 + u128::from(so_far.low >> 63);
+    Partial {
+        rest: reduced(number, divisor),
+        low: (so_far.low << 1) + count_in(number, divisor),
     }
 }
