@@ -94,6 +94,7 @@ fn instructions_come_to_what_they_should(rt: HostRuntime) {
                 assert_eq!(rt; next, *next_wanted, "{word:x}");
             }
             Some(Outcome::Memory(_)) => panic!(rt; "{word:x} is an access"),
+            Some(Outcome::Long(_)) => panic!(rt; "{word:x} is a product or quotient"),
             None => panic!(rt; "{word:x} is no instruction"),
         }
     }
@@ -104,6 +105,7 @@ fn instructions_come_to_what_they_should(rt: HostRuntime) {
                 assert_eq!(rt; next, *next_wanted, "{word:x}");
             }
             Some(Outcome::Memory(_)) => panic!(rt; "{word:x} is an access"),
+            Some(Outcome::Long(_)) => panic!(rt; "{word:x} is a product or quotient"),
             None => panic!(rt; "{word:x} is no instruction"),
         }
     }
