@@ -23,19 +23,31 @@ fn the_start_is_the_boards(rt: HostRuntime) {
 
 #[test]
 fn operations_go_by_the_table(rt: HostRuntime) {
-    for (row, name, operation) in [
-        (0, "addi", alu(AluOp::Addi, Inputs::BaseNumber)),
-        (1, "addis", alu(AluOp::Addis, Inputs::BaseNumber)),
-        (10, "ori", alu(AluOp::Ori, Inputs::SourceNumber)),
-        (17, "b", Operation::Branch(BranchRow::B)),
-        (43, "add", alu(AluOp::Add, Inputs::Two)),
-        (6, "cmpi", Operation::Later),
-        (212, "paddi", alu(AluOp::Paddi, Inputs::Relative)),
-        (223, "pnop", Operation::Hint),
+    for (row, name) in [
+        (0, "addi"),
+        (1, "addis"),
+        (10, "ori"),
+        (17, "b"),
+        (43, "add"),
+        (6, "cmpi"),
+        (212, "paddi"),
+        (223, "pnop"),
     ] {
         assert!(rt; row < 224);
-        assert!(rt; row_at(row).name == name, "{name}");
-        assert!(rt; operation_at(row) == operation, "{name}");
+        assert!(rt; row_at(row).name == name, "row {row}");
+    }
+    for (row, operation) in [
+        (0, alu(AluOp::Addi, Inputs::BaseNumber)),
+        (1, alu(AluOp::Addis, Inputs::BaseNumber)),
+        (10, alu(AluOp::Ori, Inputs::SourceNumber)),
+        (17, Operation::Branch(BranchRow::B)),
+        (43, alu(AluOp::Add, Inputs::Two)),
+        (6, Operation::Later),
+        (212, alu(AluOp::Paddi, Inputs::Relative)),
+        (223, Operation::Hint),
+    ] {
+        assert!(rt; row < 224);
+        assert!(rt; operation_at(row) == operation, "row {row}");
     }
 }
 
