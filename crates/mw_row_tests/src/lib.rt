@@ -2,6 +2,14 @@
 #![tactic(auto)]
 
 #[cfg(test)]
+mod logic;
+#[cfg(test)]
+mod programs;
+#[cfg(test)]
 mod results;
+#[cfg(test)]
+mod rotates;
+#[cfg(test)]
+mod sums;
 #[cfg(test)]
 mod units;
