@@ -95,6 +95,7 @@ fn instructions_come_to_what_they_should(rt: HostRuntime) {
             }
             Some(Outcome::Memory(_)) => panic!(rt; "{word:x} is an access"),
             Some(Outcome::Long(_)) => panic!(rt; "{word:x} is a product or quotient"),
+            Some(Outcome::Trap { .. }) => panic!(rt; "{word:x} traps"),
             None => panic!(rt; "{word:x} is no instruction"),
         }
     }
@@ -106,6 +107,7 @@ fn instructions_come_to_what_they_should(rt: HostRuntime) {
             }
             Some(Outcome::Memory(_)) => panic!(rt; "{word:x} is an access"),
             Some(Outcome::Long(_)) => panic!(rt; "{word:x} is a product or quotient"),
+            Some(Outcome::Trap { .. }) => panic!(rt; "{word:x} traps"),
             None => panic!(rt; "{word:x} is no instruction"),
         }
     }
