@@ -1,5 +1,5 @@
 -- Where an instruction goes on, and how many registers it writes.
-use Rattle.std.proofs.Common.{◌≡◌, ℕ, ◌+◌, ◌*◌, ◌/◌, ◌%◌, ◌^◌, ◌≤◌, Bool, true, false, cond, length, List, [], ◌∷◌, ◌++◌, Option, Some, None, option_and_then, slice_get, refl, sym, ap, ◌∙◌, subst, arith}
+use Rattle.std.proofs.Common.{◌≡◌, ℕ, ◌+◌, ◌%◌, ◌^◌, ◌≤◌, Bool, true, false, cond, length, [], ◌∷◌, ◌++◌, Option, Some, None, option_and_then, slice_get, refl, sym, subst, arith}
 use Rattle.std.specs.Option.{option_map_or}
 use Rattle.mw_decode.specs.declared.insn.Insn.{Insn}
 use Rattle.mw_decode.specs.Decode.{IsInsn}
@@ -12,7 +12,7 @@ use Rattle.mw_isa.specs.declared.operation.Operation.{Operation}
 use Rattle.mw_isa.specs.declared.operation.Operation.TheVariants.{Alu, Product, Quotient, Branch, Field, Fields, Pick, Trap, Storage, Hint, Later}
 use Rattle.mw_isa.specs.declared.outcome.Operands.{Operands}
 use Rattle.mw_isa.specs.declared.outcome.Outcome.{Outcome}
-use Rattle.mw_isa.specs.declared.outcome.Outcome.TheVariants.{Done, Long, Memory, Trap as Trapped}
+use Rattle.mw_isa.specs.declared.outcome.Outcome.TheVariants.{Long, Trap as Trapped}
 use Rattle.mw_isa.specs.declared.regs.Regs.{Regs}
 use Rattle.mw_isa.specs.declared.slot.Slot.{Slot}
 use Rattle.mw_isa.specs.declared.slot.Slot.TheVariants.{Gpr, CrField, Xer, Lr, Ctr}
@@ -23,11 +23,11 @@ use Rattle.mw_isa.specs.Endings.{slot_if, writes_field, writes_xer}
 use Rattle.mw_isa.specs.Execute.{arithmetic_of, behind_insn, branch_of, branch_to, effect_of, exec_of, field_of, fields_of, goal_of, pick_of, storage_of, target_of, trap_cause, trap_of, traps, updated_of, written_of}
 use Rattle.mw_isa.specs.Fetch.{behind}
 use Rattle.mw_isa.specs.Operations.{operations}
-use Rattle.mw_isa.specs.Places.{AreLimited, HasLimits, branch_roles, operand_of, places_of}
+use Rattle.mw_isa.specs.Places.{Code, Distance, AreLimited, HasLimits, branch_roles, operand_of, places_of}
 use Rattle.mw_isa.specs.Reads.{register_at}
 use Rattle.mw_isa.specs.Special.{bi_of, bo_of, slots_in}
 use Rattle.mw_isa.specs.Step.{next_of}
-use Rattle.mw_isa.specs.Targets.{access_slots, targets_by, targets_of, update_slots}
+use Rattle.mw_isa.specs.Targets.{access_slots, targets_by, targets_of}
 use Rattle.mw_isa.proofs.RowLaws.{limited}
 
 -- an address is a multiple of 4
@@ -57,8 +57,8 @@ word-aligned n = omega arith
 goal-aligned : (row : BranchRow) (insn : Insn) (o : Operands) (at : ℕ) → AreLimited insn 0 (branch_roles row) → IsAligned at → IsAligned (goal_of row insn o at)
 goal-aligned B insn o at h a = target-aligned (operand_of insn 0) insn at h.0 a
 goal-aligned Bc insn o at h a =
-    let rest : AreLimited insn 1 _ = h.1 in
-    let last : AreLimited insn 2 _ = rest.1 in
+    let rest : AreLimited insn 1 (Code 5 ∷ Distance ∷ []) = h.1 in
+    let last : AreLimited insn 2 (Distance ∷ []) = rest.1 in
     target-aligned (operand_of insn 2) insn at last.0 a
 goal-aligned Bclr insn o at h a = word-aligned o.lr
 goal-aligned Bcctr insn o at h a = word-aligned o.ctr

@@ -74,6 +74,18 @@ fields_in-bits mask n bits =
     bits_upon-append (fields_in mask n) (slots_in (slot_if (is_chosen mask n) (CrField n))) bits
     ∙ ap (bits_upon (fields_in mask n)) (bits_upon-one (slot_if (is_chosen mask n) (CrField n)) bits)
 
+-- so a set that gets the last of them has the bits of all
+pub fields_in-back : (mask k n before after : ℕ) (slot : Option Slot) → suc k ≡ n → slot ≡ slot_if (is_chosen mask k) (CrField k) → after ≡ bits_with slot before → bits_upon (fields_in mask k) after ≡ bits_upon (fields_in mask n) before
+fields_in-back mask k n before after slot next is e =
+    ap (bits_upon (fields_in mask k)) (e ∙ ap (λ (o : Option Slot). bits_with o before) is)
+    ∙ sym (fields_in-bits mask k before)
+    ∙ ap (λ (m : ℕ). bits_upon (fields_in mask m) before) next
+
+-- a set without others has the bits of a list
+pub bits_upon-none : (slots : List Slot) → bits_upon slots 0 ≡ bits_of slots
+bits_upon-none [] = refl
+bits_upon-none (slot ∷ slots) = ap (bits_with (Some slot)) (bits_upon-none slots)
+
 -- the bits of the four registers behind them
 named_slots-bits : (special : Special) → bits_of (named_slots special) ≡ bits_with (slot_if special.xer Xer) (bits_with (slot_if special.lr Lr) (bits_with (slot_if special.ctr Ctr) (bits_with (slot_if special.tar Tar) 0)))
 named_slots-bits special =
@@ -115,7 +127,8 @@ chosen_digits-lt view mask (suc n) =
 -- seven of them leave room for another one
 pub chosen_digits-room : (view : Slot → ℕ) (mask n : ℕ) → n < 8 → chosen_digits view mask n < 2 ^ 28
 chosen_digits-room view mask n few =
-    let most : 2 ^ (4 * n) ≤ 2 ^ 28 = pow_mono (omega arith) in
+    let few_digits : 4 * n ≤ 28 = omega arith in
+    let most : 2 ^ (4 * n) ≤ 2 ^ 28 = pow_mono few_digits in
     omega (arith, chosen_digits-lt view mask n)
 
 -- two views that agree on two lists, one behind the other, agree on each

@@ -3,7 +3,7 @@
 use Rattle.std.specs.Prelude.{ℕ, zero, suc, Bool, true, false, ◌||◌, if◌then◌else◌, List, [], ◌∷◌, ◌++◌, Option, Some, None, bit_or}
 use Rattle.mw_decode.specs.declared.insn.Insn.{Insn}
 use Rattle.mw_isa.specs.declared.operation.BranchRow.{BranchRow}
-use Rattle.mw_isa.specs.declared.operation.BranchRow.TheVariants.{B, Bc, Bclr, Bcctr, Bctar}
+use Rattle.mw_isa.specs.declared.operation.BranchRow.TheVariants.{B, Bclr, Bcctr, Bctar}
 use Rattle.mw_isa.specs.declared.operation.FieldRow.{FieldRow}
 use Rattle.mw_isa.specs.declared.operation.FieldRow.TheVariants.{CompareNumber, Compare, InRange, EqualsByte, FromXer, FromField, Logic}
 use Rattle.mw_isa.specs.declared.operation.PickRow.{PickRow}

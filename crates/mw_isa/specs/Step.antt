@@ -1,6 +1,6 @@
 -- One instruction, carried out on a state whose devices stand at its cycle (Books I to III): what is known of it before
 -- anything changes, the chain of what raises an interrupt, of which the first ends it, and what it leaves.
-use Rattle.std.specs.Prelude.{ℕ, ⊤, ◌≡◌, Bool, true, false, not, ◌&&◌, if◌then◌else◌, List, [], ◌∷◌, Option, Some, None, option_and_then, Result, Ok, Err}
+use Rattle.std.specs.Prelude.{ℕ, ⊤, ◌≡◌, Bool, true, false, ◌&&◌, if◌then◌else◌, List, [], ◌∷◌, Option, Some, None, option_and_then, Result, Ok, Err}
 use Rattle.mw_decode.specs.declared.insn.Insn.{Insn}
 use Rattle.mw_decode.specs.declared.insn.Decoded.{Decoded}
 use Rattle.mw_decode.specs.declared.insn.Decoded.TheVariants.{Insn as Is, Unavailable, Alignment, Illegal}

@@ -1,4 +1,4 @@
-use Rattle.std.proofs.Common.{◌≡◌, ◌×◌, ◌≤◌, length}
+use Rattle.std.proofs.Common.{◌≡◌, ◌≤◌, length}
 use Rattle.mw_isa.specs.Execute.{field_targets}
 use Rattle.mw_exec.proofs.fields.field_targets.Given as goal
 

@@ -1,4 +1,4 @@
-use Rattle.std.proofs.Common.{◌≡◌, ◌×◌, ◌≤◌}
+use Rattle.std.proofs.Common.{◌≡◌, ◌≤◌}
 use Rattle.mw_isa.specs.Slots.{bits_upon}
 use Rattle.mw_isa.specs.Special.{fields_in}
 use Rattle.mw_isa.proofs.reading.with_fields.Given as goal
