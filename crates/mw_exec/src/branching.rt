@@ -19,11 +19,11 @@ fn target_of(displacement: u64, insn: &Insn, cia: u64) -> u64
 }
 
 /// What the rows that branch come to (Book I, branch instructions). LK isn't looked at.
-pub fn branch_of(row: BranchRow, insn: &Insn, operands: &Operands, cia: u64) -> Outcome
-    ensures { result ≡ branch_of row insn.now operands.now cia }
+pub fn branch_of(row: BranchRow, insn: &Insn, operands: &Operands, cia: u64, outcome: &mut Outcome)
+    ensures { outcome.new ≡ branch_of row insn.now operands.now cia }
 {
     let displacement = b_of(places_of(Operation::Branch(row)), insn, operands);
     match row {
-        BranchRow::B => branch_to(target_of(displacement, insn, cia)),
+        BranchRow::B => branch_to(target_of(displacement, insn, cia), outcome),
     }
 }
