@@ -53,6 +53,7 @@ fn result_of(op: &mut LongOp) -> AluOut
 }
 
 /// Sets the registers that a long operation writes, once its unit has done all its ticks.
+#[inline(never)]
 pub fn finish_long(op: &mut LongOp, regs: &mut Regs)
     requires { IsStarted op.old }
     ensures { regs.new ≡ regs_after op.old regs.old }

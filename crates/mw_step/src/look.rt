@@ -32,10 +32,10 @@ pub fn prepare(state: &State, prepared: &mut Prepared) -> bool
     if !is_built(&insn) {
         return false;
     }
-    let found = operands(&insn, &state.regs, state.regs.msr);
-    exec_into(&insn, &found, cia, &mut prepared.outcome);
     prepared.words = words;
     prepared.insn = insn;
-    prepared.placed = placed_of(&prepared.outcome, state.regs.msr);
+    let found = operands(&prepared.insn, &state.regs, state.regs.msr);
+    exec_into(&prepared.insn, &found, cia, &mut prepared.outcome);
+    placed_of(&prepared.outcome, state.regs.msr, &mut prepared.placed);
     is_built_outcome(&prepared.outcome, &prepared.placed)
 }

@@ -25,4 +25,4 @@ returns-then-not-is_built c =
 
 pub returns : goal.returns
 returns c =
-    prepares-by (seen c.args.state.now) (record { words = c.in-Some.words; insn = c.in-Insn.insn; outcome = c.exec_into.new.outcome; placed = c.placed_of-prepared.result }) c.operands-found.result c.is_built_outcome.result (record { there = sym c.fetch.ensures.value ∙ c.in-Some.is; whole = sym c.if-is_cut.ensures; what_is = c.in-Insn.ensures.value }) c.operands-found.ensures c.exec_into.ensures.outcome c.placed_of-prepared.ensures.value (sym c.if-not-is_built.ensures) c.is_built_outcome.ensures c.in-Insn.ensures.insn c.exec_into.ensures.started c.exec_into.ensures.sized c.placed_of-prepared.ensures.stands
+    prepares-by (seen c.args.state.now) (record { words = c.in-Some.words; insn = c.in-Insn.insn; outcome = c.exec_into.new.outcome; placed = c.placed_of.new.placed }) c.operands-found.result c.is_built_outcome.result (record { there = sym c.fetch.ensures.value ∙ c.in-Some.is; whole = sym c.if-is_cut.ensures; what_is = c.in-Insn.ensures.value }) c.operands-found.ensures c.exec_into.ensures.outcome c.placed_of.ensures.value (sym c.if-not-is_built.ensures) c.is_built_outcome.ensures c.in-Insn.ensures.insn c.exec_into.ensures.started c.exec_into.ensures.sized c.placed_of.ensures.stands
