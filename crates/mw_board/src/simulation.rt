@@ -14,6 +14,7 @@ use crate::turn::turned;
 use mw_bus::{RAM_SIZE, Ram};
 use mw_isa::{End, Events, State};
 use mw_soc::Devices;
+use mw_step::Prepared;
 use std::alloc::Global;
 
 /// The run that reached its number of cycles with these events and in this state, whose devices are brought to that
@@ -55,9 +56,10 @@ pub fn simulate(alloc: Global, image: &[u8], n: u64) -> Result<Run, RunFault>
     };
     let mut state = State::new(ram, devices);
     let mut events = Events::new(alloc);
+    let mut prepared = Prepared::new();
     for cycle in 0..n {
         state.devices.advance(cycle);
-        let Some(event) = turned(&mut state) else {
+        let Some(event) = turned(&mut state, &mut prepared) else {
             return Err(RunFault::Unbuilt {
                 cycle,
                 cia: state.cia(),

@@ -87,6 +87,7 @@ fn operands_in(code: u64, fields: &[Field]) -> ArrayVec<i64, 6>
 }
 
 /// The instruction of the row at a place of the table, unless its operands are an illegal form.
+#[inline(always)]
 fn insn_at(code: u64, place: u16) -> Option<Insn>
     requires { place < row_count }
     ensures { result ≡ insn_at code (Some place) }
@@ -122,6 +123,7 @@ fn decode_word(word: u32) -> Decoded
 
 /// What a prefix with its suffix is.
 #[tactic(auto, unfolding(crate::specs::Decode::decode_of))]
+#[inline(never)]
 fn decode_pair(prefix: u32, suffix: u32) -> Decoded
     ensures { result ≡ decode_of prefix (Some suffix) }
 {

@@ -5,7 +5,7 @@ ghost use Rattle.mw_tables.specs.Rows.{row_count};
 
 use crate::ending::ended;
 use crate::numbers::{a_by, b_by, c_by};
-use crate::outcome::behind_insn;
+use crate::outcome::{behind_insn, branch_to};
 use mw_alu::{AluOut, alu};
 use mw_decode::Insn;
 use mw_isa::{AluRow, Carry, Operands, Operation, Outcome, Places, places_of, xer_bits};
@@ -38,16 +38,16 @@ fn out_of(row: AluRow, places: Places, insn: &Insn, operands: &Operands, cia: u6
 
 /// What a row comes to whose result is there in one cycle (Book I, fixed-point arithmetic, logical, rotate
 /// and shift instructions).
-pub fn arithmetic_of(row: AluRow, insn: &Insn, operands: &Operands, cia: u64) -> Outcome
+pub fn arithmetic_of(row: AluRow, insn: &Insn, operands: &Operands, cia: u64, outcome: &mut Outcome)
     requires row { insn.now.row < row_count }
     requires registers { HasRegisters insn.now (places_of (Operation.Alu row)) }
     requires limits { AreLimited insn.now 0 (input_roles row.inputs) }
-    ensures { result ≡ arithmetic_of row insn.now operands.now cia }
+    ensures { outcome.new ≡ arithmetic_of row insn.now operands.now cia }
 {
     let places = places_of(Operation::Alu(row));
     let out = out_of(row, places, insn, operands, cia);
-    Outcome::Done {
-        targets: ended(row.ending, places, insn, out, operands.xer),
-        next: behind_insn(insn, cia),
+    branch_to(behind_insn(insn, cia), outcome);
+    if let Outcome::Done { targets, .. } = outcome {
+        ended(row.ending, places, insn, out, operands.xer, targets);
     }
 }

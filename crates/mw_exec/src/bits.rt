@@ -43,11 +43,7 @@ fn signed_part(long: bool, number: u64) -> i64
 pub fn plain_part(long: bool, number: u64) -> u64
     ensures { result ≡ plain_part long number }
 {
-    if long {
-        number
-    } else {
-        number % 0x1_0000_0000
-    }
+    if long { number } else { number % 0x1_0000_0000 }
 }
 
 /// Whether one number is less than another (Book I, fixed-point compare instructions).
@@ -142,22 +138,10 @@ pub fn logic_of(logic: BitLogic, a: bool, b: bool) -> bool
     match logic {
         BitLogic::Crnor => !(a || b),
         BitLogic::Crandc => a && !b,
-        BitLogic::Crxor => {
-            if a {
-                !b
-            } else {
-                b
-            }
-        }
+        BitLogic::Crxor => { if a { !b } else { b } }
         BitLogic::Crnand => !(a && b),
         BitLogic::Crand => a && b,
-        BitLogic::Creqv => {
-            if a {
-                b
-            } else {
-                !b
-            }
-        }
+        BitLogic::Creqv => { if a { b } else { !b } }
         BitLogic::Crorc => a || !b,
         BitLogic::Cror => a || b,
     }

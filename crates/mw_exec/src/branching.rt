@@ -1,10 +1,11 @@
-ghost use Rattle.std.specs.Prelude.{◌≡◌, ◌++◌, ◌≤◌, ◌<◌, length};
+ghost use Rattle.std.specs.Prelude.{◌≡◌, ◌+◌, ◌++◌, ◌≤◌, ◌<◌, length};
 ghost use Rattle.mw_isa.specs.Branches.{bit_permits, count_of, ctr_permits, is_taken, word_address};
 ghost use Rattle.mw_isa.specs.Execute.{branch_by, branch_of, count_target, goal_of, link_target, target_of};
 ghost use Rattle.mw_isa.specs.Places.{AreLimited, branch_roles};
 
 use crate::bits::cr_bit;
 use crate::inputs::b_of;
+use crate::outcome::branch_to;
 use arrayvec::ArrayVec;
 use mw_decode::Insn;
 use mw_isa::{
@@ -77,19 +78,18 @@ fn is_taken(bo: u8, count: u64, bit: bool) -> bool
     ctr_permits(bo, count) && bit_permits(bo, bit)
 }
 
-/// CTR, where it falls.
-fn count_target(bo: u8, ctr: u64) -> ArrayVec<Target, 8>
-    ensures items { result.items ≡ count_target bo ctr }
-    ensures few { length result.items ≤ 1 }
+/// Adds CTR, where it falls.
+fn push_count(targets: &mut ArrayVec<Target, 8>, bo: u8, ctr: u64)
+    requires { length targets.old.items < 8 }
+    ensures items { targets.new.items ≡ targets.old.items ++ count_target bo ctr }
+    ensures few { length targets.new.items ≤ length targets.old.items + 1 }
 {
-    let mut targets = ArrayVec::new();
     if falls(bo) {
         targets.push(Target {
             slot: Slot::Ctr,
             value: Some(count_of(bo, ctr)),
         });
     }
-    targets
 }
 
 /// Adds LR, with LK: the address behind the branch.
@@ -107,25 +107,25 @@ fn push_link(targets: &mut ArrayVec<Target, 8>, lk: bool, cia: u64)
 
 /// What a branch on BO and a bit of the condition register comes to: CTR falls or not, LR is set with LK
 /// whether it is taken or not, and it is taken where both permit it.
-fn branch_by(bo: u8, bit: bool, goal: u64, lk: bool, ctr: u64, cia: u64) -> Outcome
-    ensures { result ≡ branch_by bo bit goal lk ctr cia }
+fn branch_by(bo: u8, bit: bool, goal: u64, lk: bool, ctr: u64, cia: u64, outcome: &mut Outcome)
+    ensures { outcome.new ≡ branch_by bo bit goal lk ctr cia }
 {
-    let mut targets = count_target(bo, ctr);
-    push_link(&mut targets, lk, cia);
-    Outcome::Done {
-        targets,
-        next: if is_taken(bo, count_of(bo, ctr), bit) {
-            goal
-        } else {
-            cia.wrapping_add(4)
-        },
+    let next = if is_taken(bo, count_of(bo, ctr), bit) {
+        goal
+    } else {
+        cia.wrapping_add(4)
+    };
+    branch_to(next, outcome);
+    if let Outcome::Done { targets, .. } = outcome {
+        push_count(targets, bo, ctr);
+        push_link(targets, lk, cia);
     }
 }
 
 /// What the rows that branch come to (Book I, branch instructions).
-pub fn branch_of(row: BranchRow, insn: &Insn, operands: &Operands, cia: u64) -> Outcome
+pub fn branch_of(row: BranchRow, insn: &Insn, operands: &Operands, cia: u64, outcome: &mut Outcome)
     requires { AreLimited insn.now 0 (branch_roles row) }
-    ensures { result ≡ branch_of row insn.now operands.now cia }
+    ensures { outcome.new ≡ branch_of row insn.now operands.now cia }
 {
     branch_by(
         bo_of(row, insn),
@@ -134,5 +134,6 @@ pub fn branch_of(row: BranchRow, insn: &Insn, operands: &Operands, cia: u64) -> 
         insn.lk,
         operands.ctr,
         cia,
-    )
+        outcome,
+    );
 }

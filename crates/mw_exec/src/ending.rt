@@ -1,4 +1,4 @@
-ghost use Rattle.std.specs.Prelude.{◌≡◌, ◌+◌, ◌++◌, ◌<◌, ◌≤◌, IfSome, length};
+ghost use Rattle.std.specs.Prelude.{◌≡◌, ◌+◌, ◌++◌, ◌<◌, ◌≤◌, IfSome, [], length};
 ghost use Rattle.mw_isa.specs.Execute.{ended, field_target, result_at, xer_target};
 ghost use Rattle.mw_isa.specs.Places.{HasRegisters, IsRegister};
 ghost use Rattle.mw_isa.specs.Reads.{register_at};
@@ -82,20 +82,19 @@ fn result_field(value: u64, so: bool) -> u64
     sign_field(value.cast_signed()) + u64::from(so)
 }
 
-/// The register at a place, with the result.
-pub fn result_at(place: Option<u8>, insn: &Insn, value: u64) -> ArrayVec<Target, 8>
-    requires { IfSome place (IsRegister insn.now) }
-    ensures items { result.items ≡ result_at (register_at insn.now place) value }
-    ensures few { length result.items ≤ 1 }
+/// Adds the register at a place, with the result.
+pub fn push_result(targets: &mut ArrayVec<Target, 8>, place: Option<u8>, insn: &Insn, value: u64)
+    requires place { IfSome place (IsRegister insn.now) }
+    requires room { length targets.old.items < 8 }
+    ensures items { targets.new.items ≡ targets.old.items ++ result_at (register_at insn.now place) value }
+    ensures few { length targets.new.items ≤ length targets.old.items + 1 }
 {
-    let mut targets = ArrayVec::new();
     if let Some(at) = place {
         targets.push(Target {
             slot: Slot::Gpr(register(insn, at)),
             value: Some(value),
         });
     }
-    targets
 }
 
 /// Adds XER with its bits, where it is written.
@@ -126,26 +125,22 @@ pub fn push_field(targets: &mut ArrayVec<Target, 8>, written: bool, value: u64, 
 }
 
 /// What is written at the end of an arithmetic row, in order: the result, XER and CR field 0, with the bits
-/// of XER as they stand after the instruction.
+/// of XER as they stand after the instruction. It is put into `targets`, which has to be empty.
 pub fn ended(
     ending: Ending,
     places: Places,
     insn: &Insn,
     out: AluOut,
     xer: u64,
-) -> ArrayVec<Target, 8>
-    requires { HasRegisters insn.now places }
-    ensures { result.items ≡ ended ending places insn.now out xer }
+    targets: &mut ArrayVec<Target, 8>,
+)
+    requires registers { HasRegisters insn.now places }
+    requires empty { targets.old.items ≡ [] }
+    ensures { targets.new.items ≡ ended ending places insn.now out xer }
 {
+    push_result(targets, places.written, insn, out.value);
     let before = xer_bits(xer);
     let after = bits_after(ending, insn, out, before);
-    let mut targets = result_at(places.written, insn, out.value);
-    push_xer(&mut targets, writes_xer(ending, insn), after);
-    push_field(
-        &mut targets,
-        writes_field(ending, insn),
-        out.value,
-        after.so,
-    );
-    targets
+    push_xer(targets, writes_xer(ending, insn), after);
+    push_field(targets, writes_field(ending, insn), out.value, after.so);
 }

@@ -1,4 +1,4 @@
-ghost use Rattle.std.specs.Prelude.{◌≡◌, ◌<◌};
+ghost use Rattle.std.specs.Prelude.{◌≡◌, ◌<◌, []};
 ghost use Rattle.mw_tables.specs.Rows.{row_count};
 ghost use Rattle.mw_isa.specs.Execute.{digit_of, field_of, field_targets, fields_of, is_long, logic_field};
 ghost use Rattle.mw_isa.specs.Places.{AreLimited, field_roles, fields_roles, operand_of};
@@ -8,7 +8,7 @@ use crate::bits::{
     with_bit,
 };
 use crate::inputs::b_of;
-use crate::outcome::behind_insn;
+use crate::outcome::{behind_insn, branch_to};
 use arrayvec::ArrayVec;
 use mw_decode::Insn;
 use mw_isa::{
@@ -64,27 +64,26 @@ fn digit_of(row: FieldRow, insn: &Insn, operands: &Operands) -> u64
 
 /// What the rows that set a field of the condition register come to (Book I, fixed-point compare, move and
 /// condition register instructions).
-pub fn field_of(row: FieldRow, insn: &Insn, operands: &Operands, cia: u64) -> Outcome
+pub fn field_of(row: FieldRow, insn: &Insn, operands: &Operands, cia: u64, outcome: &mut Outcome)
     requires row { insn.now.row < row_count }
     requires limits { AreLimited insn.now 0 (field_roles row) }
-    ensures { result ≡ field_of row insn.now operands.now cia }
+    ensures { outcome.new ≡ field_of row insn.now operands.now cia }
 {
-    let mut targets = ArrayVec::new();
-    targets.push(Target {
-        slot: Slot::CrField(field_written(row, insn)),
-        value: Some(digit_of(row, insn, operands)),
-    });
-    Outcome::Done {
-        targets,
-        next: behind_insn(insn, cia),
+    branch_to(behind_insn(insn, cia), outcome);
+    if let Outcome::Done { targets, .. } = outcome {
+        targets.push(Target {
+            slot: Slot::CrField(field_written(row, insn)),
+            value: Some(digit_of(row, insn, operands)),
+        });
     }
 }
 
-/// The fields of the condition register that a mask chooses, lowest number first, from a low word.
-fn field_targets(mask: u8, value: u64) -> ArrayVec<Target, 8>
-    ensures { result.items ≡ field_targets mask value 8 }
+/// The fields of the condition register that a mask chooses, lowest number first, from a low word. They are
+/// put into `targets`, which has to be empty.
+fn field_targets(mask: u8, value: u64, targets: &mut ArrayVec<Target, 8>)
+    requires { targets.old.items ≡ [] }
+    ensures { targets.new.items ≡ field_targets mask value 8 }
 {
-    let mut targets = ArrayVec::new();
     for number in 0..8u8 {
         if is_chosen(mask, number) {
             targets.push(Target {
@@ -93,17 +92,16 @@ fn field_targets(mask: u8, value: u64) -> ArrayVec<Target, 8>
             });
         }
     }
-    targets
 }
 
 /// What the rows that set the fields of a mask come to (Book I, move to condition register instructions).
-pub fn fields_of(insn: &Insn, operands: &Operands, cia: u64) -> Outcome
+pub fn fields_of(insn: &Insn, operands: &Operands, cia: u64, outcome: &mut Outcome)
     requires row { insn.now.row < row_count }
     requires limits { AreLimited insn.now 0 fields_roles }
-    ensures { result ≡ fields_of insn.now operands.now cia }
+    ensures { outcome.new ≡ fields_of insn.now operands.now cia }
 {
-    Outcome::Done {
-        targets: field_targets(mask(insn, 0), operands.a),
-        next: behind_insn(insn, cia),
+    branch_to(behind_insn(insn, cia), outcome);
+    if let Outcome::Done { targets, .. } = outcome {
+        field_targets(mask(insn, 0), operands.a, targets);
     }
 }

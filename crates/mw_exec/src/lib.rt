@@ -18,4 +18,4 @@ mod unit;
 
 pub use finish::{finished, product_out, quotient_out};
 pub use outcome::{behind_insn, next_of};
-pub use unit::{exec, is_built_row};
+pub use unit::{exec, exec_into, is_built_row};

@@ -4,9 +4,9 @@ ghost use Rattle.mw_isa.specs.Execute.{number_if, pick_of, picked_of, sign_of};
 ghost use Rattle.mw_isa.specs.Places.{AreLimited, HasRegisters, pick_roles, places_of};
 
 use crate::bits::{cr_bit, cr_field};
-use crate::ending::result_at;
+use crate::ending::push_result;
 use crate::inputs::a_of;
-use crate::outcome::behind_insn;
+use crate::outcome::{behind_insn, branch_to};
 use mw_decode::Insn;
 use mw_isa::{Operands, Operation, Outcome, PickRow, code, field, places_of};
 
@@ -62,19 +62,16 @@ fn picked_of(row: PickRow, insn: &Insn, operands: &Operands, cia: u64) -> u64
 
 /// What the rows that set a register by the condition register come to (Book I, fixed-point select, move
 /// from condition register and set instructions).
-pub fn pick_of(row: PickRow, insn: &Insn, operands: &Operands, cia: u64) -> Outcome
+pub fn pick_of(row: PickRow, insn: &Insn, operands: &Operands, cia: u64, outcome: &mut Outcome)
     requires row { insn.now.row < row_count }
     requires registers { HasRegisters insn.now (places_of (Operation.Pick row)) }
     requires limits { AreLimited insn.now 0 (pick_roles row) }
-    ensures { result ≡ pick_of row insn.now operands.now cia }
+    ensures { outcome.new ≡ pick_of row insn.now operands.now cia }
 {
     let places = places_of(Operation::Pick(row));
-    Outcome::Done {
-        targets: result_at(
-            places.written,
-            insn,
-            picked_of(row, insn, operands, cia),
-        ),
-        next: behind_insn(insn, cia),
+    let value = picked_of(row, insn, operands, cia);
+    branch_to(behind_insn(insn, cia), outcome);
+    if let Outcome::Done { targets, .. } = outcome {
+        push_result(targets, places.written, insn, value);
     }
 }

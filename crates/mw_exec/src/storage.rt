@@ -17,17 +17,23 @@ fn effective_of(places: Places, insn: &Insn, operands: &Operands, cia: u64) -> u
 
 /// The rows that access storage (Book I, fixed-point storage access; Book II, atomic update and cache
 /// management).
-pub fn storage_of(row: StorageRow, insn: &Insn, operands: &Operands, cia: u64) -> Outcome
+pub fn storage_of(
+    row: StorageRow,
+    insn: &Insn,
+    operands: &Operands,
+    cia: u64,
+    outcome: &mut Outcome,
+)
     requires { HasRegisters insn.now (places_of (Operation.Storage row)) }
-    ensures { result ≡ storage_of row insn.now operands.now cia }
+    ensures { outcome.new ≡ storage_of row insn.now operands.now cia }
 {
     let places = places_of(Operation::Storage(row));
-    Outcome::Memory(MemOp {
+    *outcome = Outcome::Memory(MemOp {
         what: row.what,
         ea: effective_of(places, insn, operands, cia),
         len: row.len,
         value: operands.c,
         to: written_of(insn, places),
         update: updated_of(insn, row, places),
-    })
+    });
 }

@@ -46,8 +46,7 @@ fn traps_unsigned(to: u8, long: bool, x: u64, y: u64) -> bool
 fn is_trapping(to: u8, long: bool, x: u64, y: u64) -> bool
     ensures { result ≡ is_trapping to long x y }
 {
-    traps_signed(to, long, x, y)
-        || (traps_equal(to, long, x, y) || traps_unsigned(to, long, x, y))
+    traps_signed(to, long, x, y) || (traps_equal(to, long, x, y) || traps_unsigned(to, long, x, y))
 }
 
 /// Whether a row's trap condition holds.
@@ -66,17 +65,17 @@ fn traps(row: TrapRow, insn: &Insn, operands: &Operands) -> bool
 
 /// What the rows that trap come to (Book I, fixed-point trap instructions): an interrupt where the
 /// condition holds, and else nothing.
-pub fn trap_of(row: TrapRow, insn: &Insn, operands: &Operands, cia: u64) -> Outcome
+pub fn trap_of(row: TrapRow, insn: &Insn, operands: &Operands, cia: u64, outcome: &mut Outcome)
     requires row { insn.now.row < row_count }
     requires limits { AreLimited insn.now 0 (trap_roles row) }
-    ensures { result ≡ trap_of row insn.now operands.now cia }
+    ensures { outcome.new ≡ trap_of row insn.now operands.now cia }
 {
     if traps(row, insn, operands) {
-        Outcome::Trap {
+        *outcome = Outcome::Trap {
             vector: Vector::Program,
             cause: TRAP,
-        }
+        };
     } else {
-        branch_to(behind_insn(insn, cia))
+        branch_to(behind_insn(insn, cia), outcome);
     }
 }

@@ -13,6 +13,7 @@ use crate::outcome::{behind_insn, branch_to};
 use crate::picking::pick_of;
 use crate::storage::storage_of;
 use crate::trapping::trap_of;
+use arrayvec::ArrayVec;
 use mw_decode::Insn;
 use mw_isa::{Operands, Operation, Outcome, operation_at};
 
@@ -37,9 +38,32 @@ pub fn is_built_row(insn: &Insn) -> bool
 }
 
 /// What an instruction at the effective address `cia` comes to, from the registers that it reads: what
-/// it writes and the address of the next one, or the interrupt that it raises (Book I). Its row has to be
-/// built.
+/// it writes and the address of the next one, or the interrupt that it raises (Book I), written over
+/// `outcome`, whatever that was. Its row has to be built.
 #[tactic(auto, unfolding(mw_isa::specs::Execute::exec_of))]
+pub fn exec_into(insn: &Insn, operands: &Operands, cia: u64, outcome: &mut Outcome)
+    requires insn { IsInsn insn.now }
+    requires built { is_built_row insn.now ≡ true }
+    ensures outcome { exec_of insn.now operands.now cia ≡ Some outcome.new }
+    ensures sized { OnMemory IsSized outcome.new }
+    ensures started { OnLong IsStarted outcome.new }
+{
+    match operation_at(insn.row) {
+        Operation::Alu(row) => arithmetic_of(row, insn, operands, cia, outcome),
+        Operation::Product(row) => *outcome = Outcome::Long(product_by(row, insn, operands)),
+        Operation::Quotient(row) => *outcome = Outcome::Long(quotient_by(row, insn, operands)),
+        Operation::Branch(row) => branch_of(row, insn, operands, cia, outcome),
+        Operation::Field(row) => field_of(row, insn, operands, cia, outcome),
+        Operation::Fields => fields_of(insn, operands, cia, outcome),
+        Operation::Pick(row) => pick_of(row, insn, operands, cia, outcome),
+        Operation::Trap(row) => trap_of(row, insn, operands, cia, outcome),
+        Operation::Storage(row) => storage_of(row, insn, operands, cia, outcome),
+        Operation::Hint => branch_to(behind_insn(insn, cia), outcome),
+        Operation::Later => unreachable!(),
+    }
+}
+
+/// What `exec_into` writes, as a value of its own.
 pub fn exec(insn: &Insn, operands: &Operands, cia: u64) -> Outcome
     requires insn { IsInsn insn.now }
     requires built { is_built_row insn.now ≡ true }
@@ -47,17 +71,10 @@ pub fn exec(insn: &Insn, operands: &Operands, cia: u64) -> Outcome
     ensures sized { OnMemory IsSized result }
     ensures started { OnLong IsStarted result }
 {
-    match operation_at(insn.row) {
-        Operation::Alu(row) => arithmetic_of(row, insn, operands, cia),
-        Operation::Product(row) => Outcome::Long(product_by(row, insn, operands)),
-        Operation::Quotient(row) => Outcome::Long(quotient_by(row, insn, operands)),
-        Operation::Branch(row) => branch_of(row, insn, operands, cia),
-        Operation::Field(row) => field_of(row, insn, operands, cia),
-        Operation::Fields => fields_of(insn, operands, cia),
-        Operation::Pick(row) => pick_of(row, insn, operands, cia),
-        Operation::Trap(row) => trap_of(row, insn, operands, cia),
-        Operation::Storage(row) => storage_of(row, insn, operands, cia),
-        Operation::Hint => branch_to(behind_insn(insn, cia)),
-        Operation::Later => unreachable!(),
-    }
+    let mut outcome = Outcome::Done {
+        targets: ArrayVec::new(),
+        next: 0,
+    };
+    exec_into(insn, operands, cia, &mut outcome);
+    outcome
 }

@@ -22,6 +22,7 @@ const NONE: Places = Places {
 
 /// Where the operands of an arithmetic row stand.
 #[rattlefmt::skip]
+#[inline(always)]
 fn input_places(inputs: Inputs) -> Places
     ensures { result ≡ places_in (input_roles inputs) }
 {
@@ -49,6 +50,7 @@ fn input_places(inputs: Inputs) -> Places
 }
 
 /// Where the operands of an access stand: the register that it loads or stores, if there is one, comes first.
+#[inline(always)]
 fn access_places(address: Address, what: MemWhat) -> Places
     ensures { result ≡ places_in (access_roles address what) }
 {
@@ -87,6 +89,7 @@ fn access_places(address: Address, what: MemWhat) -> Places
 }
 
 /// The same with the register at place 0, which is written by a load and read as c by a store.
+#[inline(always)]
 fn with_datum(what: MemWhat, places: Places) -> Places
     ensures { result ≡ with_datum what places }
 {
@@ -110,6 +113,7 @@ fn with_datum(what: MemWhat, places: Places) -> Places
 }
 
 /// Where the operands of a branch stand.
+#[inline(always)]
 fn branch_places(row: BranchRow) -> Places
     ensures { result ≡ places_in (branch_roles row) }
 {
@@ -180,6 +184,7 @@ fn trap_places(row: TrapRow) -> Places
 }
 
 /// Where the operands of an operation stand, by what they are to it (Book I, instruction formats).
+#[inline(always)]
 pub fn places_of(operation: Operation) -> Places
     ensures { result ≡ places_of operation }
 {
@@ -200,6 +205,7 @@ pub fn places_of(operation: Operation) -> Places
 
 /// The operand at a place, counted from 0: a register's number, or a number in 64 bits, where a signed one
 /// is extended; 0 where the instruction has fewer operands.
+#[inline(always)]
 pub fn operand_of(insn: &Insn, place: u8) -> u64
     ensures { result ≡ operand_of insn.now place }
 {
@@ -212,6 +218,7 @@ pub fn operand_of(insn: &Insn, place: u8) -> u64
 }
 
 /// The register at a place.
+#[inline(always)]
 pub fn register(insn: &Insn, place: u8) -> u8
     requires { IsRegister insn.now place }
     ensures value { result ≡ operand_of insn.now place }

@@ -5,7 +5,7 @@ use crate::units::{PERMUTES, PRODUCTS, QUOTIENTS};
 use mw_bus::Ram;
 use mw_isa::State;
 use mw_soc::Devices;
-use mw_step::{carry_out, prepare};
+use mw_step::{Prepared, carry_out, prepare};
 use std::alloc::{AllocError as NoMemory, Global};
 use std::test::Fail;
 
@@ -25,7 +25,7 @@ pub struct Row(
 const OTHER: u64 = 0xdead_beef_0bad_f00d;
 
 /// Carries out a row's instruction at its address; whether it retired.
-fn retires(state: &mut State, row: &Row) -> bool {
+fn retires(state: &mut State, prepared: &mut Prepared, row: &Row) -> bool {
     let Row(word, suffix, cia, [third, fourth, fifth, xer], ..) = row;
     let at = u64::from(*cia);
     state.ram.write(at, &word.to_le_bytes());
@@ -37,12 +37,11 @@ fn retires(state: &mut State, row: &Row) -> bool {
     state.regs.xer = *xer;
     state.regs.cr = 0;
     state.regs.cia = at;
-    match prepare(state) {
-        None => false,
-        Some(prepared) => {
-            carry_out(state, prepared);
-            true
-        }
+    if prepare(state, prepared) {
+        carry_out(state, prepared);
+        true
+    } else {
+        false
     }
 }
 
@@ -54,6 +53,7 @@ fn first(alloc: Global) -> Result<State, NoMemory> {
 #[test]
 fn each_row_in_each_form(rt: HostRuntime) -> Result<(), Fail> {
     let mut state = first(rt.alloc())?;
+    let mut prepared = Prepared::new();
     for rows in [
         SUMS.as_slice(),
         LOGIC.as_slice(),
@@ -64,7 +64,7 @@ fn each_row_in_each_form(rt: HostRuntime) -> Result<(), Fail> {
         QUOTIENTS.as_slice(),
     ] {
         for row in rows {
-            assert!(rt; retires(&mut state, row), "{:08x}", row.0);
+            assert!(rt; retires(&mut state, &mut prepared, row), "{:08x}", row.0);
             assert_eq!(rt; state.regs.gpr[5], row.4, "r5 of {:08x}", row.0);
             assert_eq!(rt; state.regs.xer, row.5, "XER of {:08x}", row.0);
             assert_eq!(rt;

@@ -17,7 +17,7 @@ use Rattle.mw_isa.specs.Storage.{IsSized, OnMemory, IsPlaced}
 use Rattle.mw_isa.specs.Step.{Placed, IsKnown, OnLong, OnPlaced, step, insn_in, insn_of, decoded_of, placed_of, builds, is_built_outcome, state_behind}
 use Rattle.mw_isa.proofs.StepLaws.{after-known, builds-known, builds-none, builds-not, insn_of-cut, insn_of-whole}
 use Rattle.mw_step.specs.declared.prepared.Prepared.{Prepared}
-use Rattle.mw_step.specs.Prepared.{IsPrepared}
+use Rattle.mw_step.specs.Prepared.{IsPrepared, Prepares}
 
 -- what was fetched and what it decoded to
 pub record Met (state : State) (words : Fetched) (what : Decoded) : Type 0 where
@@ -56,11 +56,11 @@ built-by state words insn operands outcome placed m o e p =
     ∙ ap (λ (v : Option Placed). is_built_row insn && is_built_outcome (Some outcome) v) (sym p)
 
 -- nor is one that isn't by what it comes to
-pub unbuilt-outcome : (state : State) (words : Fetched) (insn : Insn) (operands : Operands) (outcome : Outcome) (placed : Option Placed) → Met state words (Is insn) → operands ≡ operands_of insn state.regs → exec_of insn operands state.regs.cia ≡ Some outcome → placed ≡ placed_of outcome state.regs.msr → is_built_outcome (Some outcome) placed ≡ false → builds state ≡ false
+unbuilt-outcome : (state : State) (words : Fetched) (insn : Insn) (operands : Operands) (outcome : Outcome) (placed : Option Placed) → Met state words (Is insn) → operands ≡ operands_of insn state.regs → exec_of insn operands state.regs.cia ≡ Some outcome → placed ≡ placed_of outcome state.regs.msr → is_built_outcome (Some outcome) placed ≡ false → builds state ≡ false
 unbuilt-outcome state words insn operands outcome placed m o e p stopped = built-by state words insn operands outcome placed m o e p ∙ and_right (is_built_row insn) _ stopped
 
 -- one that is built is prepared so
-pub prepared-is : (state : State) (prepared : Prepared) (operands : Operands) → Met state prepared.words (Is prepared.insn) → operands ≡ operands_of prepared.insn state.regs → exec_of prepared.insn operands state.regs.cia ≡ Some prepared.outcome → prepared.placed ≡ placed_of prepared.outcome state.regs.msr → is_built_row prepared.insn ≡ true → is_built_outcome (Some prepared.outcome) prepared.placed ≡ true → IsInsn prepared.insn → OnLong IsStarted prepared.outcome → OnMemory IsSized prepared.outcome → OnPlaced IsPlaced prepared.outcome prepared.placed → IsPrepared prepared state
+prepared-is : (state : State) (prepared : Prepared) (operands : Operands) → Met state prepared.words (Is prepared.insn) → operands ≡ operands_of prepared.insn state.regs → exec_of prepared.insn operands state.regs.cia ≡ Some prepared.outcome → prepared.placed ≡ placed_of prepared.outcome state.regs.msr → is_built_row prepared.insn ≡ true → is_built_outcome (Some prepared.outcome) prepared.placed ≡ true → IsInsn prepared.insn → OnLong IsStarted prepared.outcome → OnMemory IsSized prepared.outcome → OnPlaced IsPlaced prepared.outcome prepared.placed → IsPrepared prepared state
 prepared-is state prepared operands m o e p built done is started sized stands = record {
   known = known-is state prepared.words prepared.insn operands prepared.outcome m o e;
   placed = p;
@@ -68,6 +68,12 @@ prepared-is state prepared operands m o e p built done is started sized stands =
   is = is;
   can = record { started = started; sized = sized; stands = stands; built = done };
 }
+
+-- what is told of the next instruction, by whether what it comes to is built
+pub prepares-by : (state : State) (prepared : Prepared) (operands : Operands) (done : Bool) → Met state prepared.words (Is prepared.insn) → operands ≡ operands_of prepared.insn state.regs → exec_of prepared.insn operands state.regs.cia ≡ Some prepared.outcome → prepared.placed ≡ placed_of prepared.outcome state.regs.msr → is_built prepared.insn ≡ true → done ≡ is_built_outcome (Some prepared.outcome) prepared.placed → IsInsn prepared.insn → OnLong IsStarted prepared.outcome → OnMemory IsSized prepared.outcome → OnPlaced IsPlaced prepared.outcome prepared.placed → Prepares prepared done state
+prepares-by state prepared operands true m o e p built done is started sized stands = prepared-is state prepared operands m o e p built (sym done) is started sized stands
+prepares-by state prepared operands false m o e p built done is started sized stands =
+    unbuilt-outcome state prepared.words prepared.insn operands prepared.outcome prepared.placed m o e p (sym done)
 
 -- the step of what is prepared leaves what its outcome leaves
 pub prepared-after : (prepared : Prepared) (state : State) → IsPrepared prepared state → (step state).after ≡ state_behind (Some prepared.insn) (Some prepared.outcome) prepared.placed state.regs.cia state

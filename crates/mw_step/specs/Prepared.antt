@@ -1,5 +1,5 @@
 -- What is known of the next instruction before anything changes, and the event of its being carried out.
-use Rattle.std.specs.Prelude.{◌≡◌, true}
+use Rattle.std.specs.Prelude.{◌≡◌, Bool, true, false}
 use Rattle.mw_decode.specs.Decode.{IsInsn}
 use Rattle.mw_isa.specs.declared.event.Event.{Event}
 use Rattle.mw_isa.specs.declared.event.Event.TheVariants.{Retire}
@@ -18,6 +18,11 @@ pub record IsPrepared (prepared : Prepared) (state : State) : Type 0 where
   pub is : IsInsn prepared.insn
   -- and comes to what can be carried out
   pub can : CanFinish prepared.outcome prepared.placed
+
+-- what is told of the next instruction of a state: where it is built this is it, and else it isn't built
+abbrev pub Prepares : Prepared → Bool → State → Type 0
+Prepares prepared true state = IsPrepared prepared state
+Prepares prepared false state = builds state ≡ false
 
 -- the next instruction retires at the devices' cycle
 abbrev pub retired : State → Event

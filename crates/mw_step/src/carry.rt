@@ -11,9 +11,9 @@ use mw_exec::next_of;
 use mw_isa::{Event, Outcome, PageFault, State, Stretches, set_targets};
 
 /// Writes what an outcome writes, where its access stands.
-fn write(outcome: Outcome, placed: &Option<Result<Stretches, PageFault>>, state: &mut State)
-    requires { CanFinish outcome placed.now }
-    ensures value { seen state.new ≡ written outcome placed.now (seen state.old) }
+fn write(outcome: &mut Outcome, placed: &Option<Result<Stretches, PageFault>>, state: &mut State)
+    requires { CanFinish outcome.old placed.now }
+    ensures value { seen state.new ≡ written outcome.old placed.now (seen state.old) }
     ensures room { state.new.devices.room ≡ state.old.devices.room }
 {
     match outcome {
@@ -23,27 +23,28 @@ fn write(outcome: Outcome, placed: &Option<Result<Stretches, PageFault>>, state:
         Outcome::Memory(op) => match placed {
             None => {}
             Some(Err(_)) => {}
-            Some(Ok(at)) => access(&op, at, state),
+            Some(Ok(at)) => access(op, at, state),
         },
     }
 }
 
 /// Leaves the state behind an instruction at an address.
-fn finish(prepared: Prepared, cia: u64, state: &mut State)
-    requires row { prepared.insn.row < row_count }
-    requires can { CanFinish prepared.outcome prepared.placed }
-    ensures value { seen state.new ≡ state_behind (Some prepared.insn) (Some prepared.outcome) prepared.placed cia (seen state.old) }
+fn finish(prepared: &mut Prepared, cia: u64, state: &mut State)
+    requires row { prepared.old.insn.row < row_count }
+    requires can { CanFinish prepared.old.outcome prepared.old.placed }
+    ensures value { seen state.new ≡ state_behind (Some prepared.old.insn) (Some prepared.old.outcome) prepared.old.placed cia (seen state.old) }
     ensures room { state.new.devices.room ≡ state.old.devices.room }
 {
     let next = next_of(&prepared.insn, &prepared.outcome, &state.regs, cia);
-    write(prepared.outcome, &prepared.placed, state);
+    write(&mut prepared.outcome, &prepared.placed, state);
     state.regs.cia = next;
 }
 
 /// Carries out the next instruction, as it was prepared, at the devices' cycle: the state is then the one
-/// behind it, and the event says that it retired (Books I to III). It can't fail and takes no memory.
-pub fn carry_out(state: &mut State, prepared: Prepared) -> Event
-    requires { IsPrepared prepared (seen state.old) }
+/// behind it, and the event says that it retired (Books I to III). `prepared` is used up, and of no use but to
+/// be written over. It can't fail and takes no memory.
+pub fn carry_out(state: &mut State, prepared: &mut Prepared) -> Event
+    requires { IsPrepared prepared.old (seen state.old) }
     ensures event { result ≡ retired (seen state.old) }
     ensures after { seen state.new ≡ (step (seen state.old)).after }
     ensures room { state.new.devices.room ≡ state.old.devices.room }

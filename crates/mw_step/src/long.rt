@@ -53,11 +53,12 @@ fn result_of(op: &mut LongOp) -> AluOut
 }
 
 /// Sets the registers that a long operation writes, once its unit has done all its ticks.
-pub fn finish_long(mut op: LongOp, regs: &mut Regs)
-    requires { IsStarted op }
-    ensures { regs.new ≡ regs_after op regs.old }
+#[inline(never)]
+pub fn finish_long(op: &mut LongOp, regs: &mut Regs)
+    requires { IsStarted op.old }
+    ensures { regs.new ≡ regs_after op.old regs.old }
 {
-    let out = result_of(&mut op);
-    let targets = finished(&op, out, regs.xer);
+    let out = result_of(op);
+    let targets = finished(op, out, regs.xer);
     set_targets(targets.as_slice(), regs);
 }

@@ -1,46 +1,41 @@
-ghost use Rattle.std.specs.Prelude.{◌≡◌, MatchOption, false};
 ghost use Rattle.mw_isa.specs.State.{seen};
-ghost use Rattle.mw_isa.specs.Step.{builds};
-ghost use Rattle.mw_step.specs.Prepared.{IsPrepared};
+ghost use Rattle.mw_step.specs.Prepared.{Prepares};
 
 use crate::fetch::fetch;
 use crate::place::placed_of;
 use crate::prepared::Prepared;
 use mw_decode::{Decoded, decode};
-use mw_exec::{exec, is_built_row};
+use mw_exec::{exec_into, is_built_row};
 use mw_isa::{State, is_cut, operands};
 use mw_loadstore::is_built_outcome;
 
 /// What is known of the next instruction before anything changes: its words, what it is, what it comes to,
-/// and where its access stands; `None` exactly where it isn't built (Books I to III). It takes no memory.
-pub fn prepare(state: &State) -> Option<Prepared>
-    ensures { MatchOption result (builds (seen state.now) ≡ false) (λ prepared. IsPrepared prepared (seen state.now)) }
+/// and where its access stands, written over `prepared`, whatever that was. `false` exactly where the
+/// instruction isn't built (Books I to III): `prepared` is then of no use but to be written over. It takes no
+/// memory.
+pub fn prepare(state: &State, prepared: &mut Prepared) -> bool
+    ensures { Prepares prepared.new result (seen state.now) }
 {
     let cia = state.regs.cia;
     let Some(words) = fetch(&state.ram, cia) else {
-        return None;
+        return false;
     };
     if is_cut(&words) {
-        return None;
+        return false;
     }
     let insn = match decode(words.word, words.suffix) {
         Decoded::Insn(insn) => insn,
-        Decoded::Unavailable(_) => return None,
-        Decoded::Alignment { .. } => return None,
-        Decoded::Illegal => return None,
+        Decoded::Unavailable(_) => return false,
+        Decoded::Alignment { .. } => return false,
+        Decoded::Illegal => return false,
     };
     if !is_built_row(&insn) {
-        return None;
+        return false;
     }
-    let outcome = exec(&insn, &operands(&insn, &state.regs, state.regs.msr), cia);
-    let placed = placed_of(&outcome, state.regs.msr);
-    if !is_built_outcome(&outcome, &placed) {
-        return None;
-    }
-    Some(Prepared {
-        words,
-        insn,
-        outcome,
-        placed,
-    })
+    prepared.words = words;
+    prepared.insn = insn;
+    let found = operands(&prepared.insn, &state.regs, state.regs.msr);
+    exec_into(&prepared.insn, &found, cia, &mut prepared.outcome);
+    placed_of(&prepared.outcome, state.regs.msr, &mut prepared.placed);
+    is_built_outcome(&prepared.outcome, &prepared.placed)
 }

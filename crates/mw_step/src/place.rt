@@ -38,17 +38,17 @@ fn stretches_of(pages: &Pages) -> Result<Stretches, PageFault>
     }
 }
 
-/// Where the access of an outcome under MSR stands, if it has one.
-pub fn placed_of(outcome: &Outcome, msr: u64) -> Option<Result<Stretches, PageFault>>
+/// Where the access of an outcome under MSR stands, if it has one, written over `placed`.
+pub fn placed_of(outcome: &Outcome, msr: u64, placed: &mut Option<Result<Stretches, PageFault>>)
     requires { OnMemory IsSized outcome.now }
-    ensures value { result ≡ placed_of outcome.now msr }
-    ensures stands { OnPlaced IsPlaced outcome.now result }
+    ensures value { placed.new ≡ placed_of outcome.now msr }
+    ensures stands { OnPlaced IsPlaced outcome.now placed.new }
 {
     let _ = msr;
     match outcome {
-        Outcome::Done { .. } => None,
-        Outcome::Long(_) => None,
-        Outcome::Trap { .. } => None,
-        Outcome::Memory(op) => Some(stretches_of(&pages_of(op))),
+        Outcome::Done { .. } => *placed = None,
+        Outcome::Long(_) => *placed = None,
+        Outcome::Trap { .. } => *placed = None,
+        Outcome::Memory(op) => *placed = Some(stretches_of(&pages_of(op))),
     }
 }

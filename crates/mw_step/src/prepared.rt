@@ -1,3 +1,4 @@
+use arrayvec::ArrayVec;
 use mw_decode::Insn;
 use mw_isa::{Fetched, Outcome, PageFault, Stretches};
 
@@ -12,4 +13,29 @@ pub struct Prepared {
     pub outcome: Outcome,
     /// Where its access stands, if it has one: its stretches, or the fault of a page.
     pub placed: Option<Result<Stretches, PageFault>>,
+}
+
+impl Prepared {
+    /// A place for `prepare` to write to, at which no instruction is known yet. It takes no memory, and can't fail.
+    pub fn new() -> Prepared {
+        Prepared {
+            words: Fetched {
+                word: 0,
+                suffix: None,
+            },
+            insn: Insn {
+                row: 0,
+                ops: ArrayVec::new(),
+                oe: false,
+                rc: false,
+                aa: false,
+                lk: false,
+            },
+            outcome: Outcome::Done {
+                targets: ArrayVec::new(),
+                next: 0,
+            },
+            placed: None,
+        }
+    }
 }

@@ -10,13 +10,13 @@ pub returns : goal.returns
 returns c =
     c.with_fields.ensures
     ∙ ap (bits_upon (fields_in c.args.special.fields 8)) (
-        c.with-named.ensures
-        ∙ ap₂ bits_with c.slot_if-4.ensures.value (
-            c.with-3.ensures
-            ∙ ap₂ bits_with c.slot_if-3.ensures.value (
-                c.with-2.ensures
-                ∙ ap₂ bits_with c.slot_if-2.ensures.value (c.with.ensures ∙ ap (λ (slot : Option Slot). bits_with slot 0) c.slot_if.ensures.value)
-            )
-        )
+    c.with-named.ensures
+    ∙ ap₂ bits_with c.slot_if-4.ensures.value (
+    c.with-3.ensures
+    ∙ ap₂ bits_with c.slot_if-3.ensures.value (
+    c.with-2.ensures
+    ∙ ap₂ bits_with c.slot_if-2.ensures.value (c.with.ensures ∙ ap (λ (slot : Option Slot). bits_with slot 0) c.slot_if.ensures.value)
+    )
+    )
     )
     ∙ sym (special_slots-bits c.args.special)

@@ -4,7 +4,7 @@ use Rattle.mw_isa.specs.Storage.{IsSized, OnMemory}
 use Rattle.mw_isa.proofs.StorageLaws.{storage-sized}
 use Rattle.mw_isa.proofs.RowLaws.{limited, registers}
 use Rattle.mw_isa.specs.declared.operation.Operation.TheVariants.{Alu, Product, Quotient, Branch, Field, Fields, Pick, Trap, Storage}
-use Rattle.mw_exec.proofs.unit.exec.Goals as goal
+use Rattle.mw_exec.proofs.unit.exec_into.Goals as goal
 
 pub operation_at-requires : goal.operation_at-requires
 operation_at-requires c = IsInsn-row c.args.insn.now c.requires.insn
