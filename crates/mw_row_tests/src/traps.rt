@@ -316,6 +316,33 @@ static NUMBERS: [Row; 155] = [
     Row(0x0f83_ffff, [1, OTHER], true), // twi 28,r3,-1
 ];
 
+/// Each row of the system, and words that are no instruction: none of them runs yet.
+#[rattlefmt::skip]
+static UNBUILT: [u32; 22] = [
+    0x4400_0002, // sc
+    0x4c00_0024, // rfid
+    0x4c00_0224, // hrfid
+    0x4c00_012c, // isync
+    0x7c00_04ac, // sync 0
+    0x7c00_06ac, // eieio
+    0x7c00_046c, // tlbsync
+    0x7c60_00a6, // mfmsr r3
+    0x7c60_0124, // mtmsr r3,0
+    0x7c60_0164, // mtmsrd r3,0
+    0x7c60_2264, // tlbie r4,r3,0,0,0
+    0x7c60_2224, // tlbiel r4,r3,0,0,0
+    0x7c61_02a6, // mfspr r3,1
+    0x7c61_03a6, // mtspr 1,r3
+    0x7c6c_42e6, // mftb r3,268
+    0x7c60_05e6, // darn r3,0
+    0x4c40_0420, // bcctr 2,0,0, whose CTR would fall
+    0x4e00_0421, // bcctrl 16,0,0, likewise
+    0x4c00_0064, // rfi, which is no row
+    0x7c00_000c, // lvsl v0,0,r0, of a facility that isn't there
+    0xb860_0000, // lmw r3,0(0), which raises alignment
+    0,
+];
+
 #[test]
 fn traps_hold_where_they_should(rt: HostRuntime) -> Result<(), Fail> {
     let mut state = first(rt.alloc())?;
@@ -339,6 +366,16 @@ fn traps_hold_where_they_should(rt: HostRuntime) -> Result<(), Fail> {
             assert_eq!(rt; [regs.gpr[3], regs.gpr[4]], [*third, *fourth], "{word:08x}");
             assert_eq!(rt; [regs.cr, 0], [0, 0], "CR of {word:08x}");
         }
+    }
+    Ok(())
+}
+
+#[test]
+fn rows_of_the_system_do_not_run_yet(rt: HostRuntime) -> Result<(), Fail> {
+    let mut state = first(rt.alloc())?;
+    for word in &UNBUILT {
+        lay(&mut state, *word, 0, 0x1000);
+        assert!(rt; !retires(&mut state), "{word:08x}");
     }
     Ok(())
 }
