@@ -1,7 +1,7 @@
 # Each instruction that runs today, once or more: sums, loads and stores of every width, cache, prefixed rows, results
 # with carries, of logic, rotates and shifts, counts, permutes, products and quotients, compares, the condition
 # register, traps that don't hold, and branches.
-        addi   r3, r0, 0x400    # r3: where the bytes stand
+        addi   r3, r0, 0x800    # r3: where the bytes stand
         addis  r4, r0, -2       # r4 = fffffffffffe0000
         ori    r4, r4, 0x8081   # r4 = fffffffffffe8081
         add    r5, r3, r4
@@ -42,12 +42,12 @@ stores: stb    r4, 0(r3)
         lwz    r8, 4(r3)        # fffe8081
         lwa    r8, 4(r3)        # fffffffffffe8081
         ld     r8, 8(r3)        # fffffffffffe8081
-        li     r7, 0x400
+        li     r7, 0x800
         lbzu   r9, 0(r7)
         lhzu   r9, 2(r7)
         lhau   r9, 2(r7)
         lwzu   r9, 0(r7)
-        ldu    r9, 4(r7)        # r7 = 408
+        ldu    r9, 4(r7)        # r7 = 808
         li     r6, 0
         lbzx   r10, r7, r6
         lhzx   r10, r7, r6
@@ -85,7 +85,7 @@ stores: stb    r4, 0(r3)
         dcbst  r0, r7
         dcbf   r0, r7
         icbi   r0, r7
-        dcbz   r0, r7           # the block from 400 on becomes zeros
+        dcbz   r0, r7           # the block from 800 on becomes zeros
 
 # Prefixed rows, with a displacement of 34 bits; none of them may cross a block.
         b      wide
@@ -199,14 +199,14 @@ wide:   paddi  r15, r0, 0x10400, 0
         modsd  r31, r19, r18
         modud  r31, r19, r18
         modsw  r31, r19, r22
-        moduw  r31, r19, r3     # 81, of fffe8081 by 400
+        moduw  r31, r19, r3     # 81, of fffe8081 by 800
 
 # Compares: of -1 and 1, of a byte with a range of them, of a byte with eight.
         cmpi   0, 1, r21, 0     # field 0 is 8: less
         cmpli  1, 0, r21, 1     # field 1 is 4: greater, as words without a sign
         cmp    2, 1, r22, r21   # field 2 is 4
         cmpl   3, 1, r22, r21   # field 3 is 8
-        cmprb  4, 0, r4, r5     # field 4 is 4: 81 lies between 81 and 84
+        cmprb  4, 0, r4, r5     # field 4 is 4: 81 lies between 81 and 88
         cmpeqb 5, r4, r18       # field 5 is 4: 81 is one of the bytes of fffe8081
         mcrxrx 6                # field 6 is f: OV, OV32, CA and CA32
 
