@@ -83,7 +83,7 @@ fn result_field(value: u64, so: bool) -> u64
 }
 
 /// The register at a place, with the result.
-fn result_at(place: Option<u8>, insn: &Insn, value: u64) -> ArrayVec<Target, 8>
+pub fn result_at(place: Option<u8>, insn: &Insn, value: u64) -> ArrayVec<Target, 8>
     requires { IfSome place (IsRegister insn.now) }
     ensures items { result.items ≡ result_at (register_at insn.now place) value }
     ensures few { length result.items ≤ 1 }

@@ -7,7 +7,7 @@ use crate::fetch::fetch;
 use crate::place::placed_of;
 use crate::prepared::Prepared;
 use mw_decode::{Decoded, decode};
-use mw_exec::{exec, is_built};
+use mw_exec::{exec, is_built_row};
 use mw_isa::{State, is_cut, operands};
 use mw_loadstore::is_built_outcome;
 
@@ -29,7 +29,7 @@ pub fn prepare(state: &State) -> Option<Prepared>
         Decoded::Alignment { .. } => return None,
         Decoded::Illegal => return None,
     };
-    if !is_built(&insn) {
+    if !is_built_row(&insn) {
         return None;
     }
     let outcome = exec(&insn, &operands(&insn, &state.regs, state.regs.msr), cia);

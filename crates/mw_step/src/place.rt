@@ -48,6 +48,7 @@ pub fn placed_of(outcome: &Outcome, msr: u64) -> Option<Result<Stretches, PageFa
     match outcome {
         Outcome::Done { .. } => None,
         Outcome::Long(_) => None,
+        Outcome::Trap { .. } => None,
         Outcome::Memory(op) => Some(stretches_of(&pages_of(op))),
     }
 }

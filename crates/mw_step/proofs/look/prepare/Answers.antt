@@ -19,9 +19,9 @@ pub returns-in-Illegal : goal.returns-in-Illegal
 returns-in-Illegal c =
     unbuilt-words (seen c.args.state.now) c.in-Some.words Illegal (record { there = sym c.fetch.ensures.value ∙ c.in-Some.is; whole = sym c.if-is_cut.ensures; what_is = c.in-Illegal.ensures.value }) refl
 
-pub returns-then-not-is_built : goal.returns-then-not-is_built
-returns-then-not-is_built c =
-    unbuilt-insn (seen c.args.state.now) c.in-Some.words c.in-Insn.insn (record { there = sym c.fetch.ensures.value ∙ c.in-Some.is; whole = sym c.if-is_cut.ensures; what_is = c.in-Insn.ensures.value }) (sym c.if-not-is_built.ensures)
+pub returns-then-not-is_built_row : goal.returns-then-not-is_built_row
+returns-then-not-is_built_row c =
+    unbuilt-insn (seen c.args.state.now) c.in-Some.words c.in-Insn.insn (record { there = sym c.fetch.ensures.value ∙ c.in-Some.is; whole = sym c.if-is_cut.ensures; what_is = c.in-Insn.ensures.value }) (sym c.if-not-is_built_row.ensures)
 
 pub returns-then-not-is_built_outcome : goal.returns-then-not-is_built_outcome
 returns-then-not-is_built_outcome c =
@@ -29,4 +29,4 @@ returns-then-not-is_built_outcome c =
 
 pub returns : goal.returns
 returns c =
-    prepared-is (seen c.args.state.now) (record { words = c.in-Some.words; insn = c.in-Insn.insn; outcome = c.exec-outcome.result; placed = c.placed_of-placed.result }) c.operands.result (record { there = sym c.fetch.ensures.value ∙ c.in-Some.is; whole = sym c.if-is_cut.ensures; what_is = c.in-Insn.ensures.value }) c.operands.ensures c.exec-outcome.ensures.outcome c.placed_of-placed.ensures.value (sym c.if-not-is_built.ensures) (sym c.if-not-is_built_outcome.ensures) c.in-Insn.ensures.insn c.exec-outcome.ensures.started c.exec-outcome.ensures.sized c.placed_of-placed.ensures.stands
+    prepared-is (seen c.args.state.now) (record { words = c.in-Some.words; insn = c.in-Insn.insn; outcome = c.exec-outcome.result; placed = c.placed_of-placed.result }) c.operands.result (record { there = sym c.fetch.ensures.value ∙ c.in-Some.is; whole = sym c.if-is_cut.ensures; what_is = c.in-Insn.ensures.value }) c.operands.ensures c.exec-outcome.ensures.outcome c.placed_of-placed.ensures.value (sym c.if-not-is_built_row.ensures) (sym c.if-not-is_built_outcome.ensures) c.in-Insn.ensures.insn c.exec-outcome.ensures.started c.exec-outcome.ensures.sized c.placed_of-placed.ensures.stands
