@@ -47,7 +47,10 @@ fn operations_go_by_the_table(rt: HostRuntime) {
         (10, alu(AluOp::Ori, Inputs::SourceNumber)),
         (17, Operation::Branch(BranchRow::B)),
         (43, alu(AluOp::Add, Inputs::Two)),
-        (6, Operation::Field(FieldRow::CompareNumber { signed: true })),
+        (
+            6,
+            Operation::Field(FieldRow::CompareNumber { signed: true }),
+        ),
         (18, Operation::Branch(BranchRow::Bc)),
         (114, Operation::Trap(TrapRow::TrapRegister { long: false })),
         (116, Operation::Pick(PickRow::Select)),
