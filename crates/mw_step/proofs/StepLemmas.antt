@@ -70,7 +70,7 @@ prepared-is state prepared operands m o e p built done is started sized stands =
 }
 
 -- what is told of the next instruction, by whether what it comes to is built
-pub prepares-by : (state : State) (prepared : Prepared) (operands : Operands) (done : Bool) → Met state prepared.words (Is prepared.insn) → operands ≡ operands_of prepared.insn state.regs → exec_of prepared.insn operands state.regs.cia ≡ Some prepared.outcome → prepared.placed ≡ placed_of prepared.outcome state.regs.msr → is_built prepared.insn ≡ true → done ≡ is_built_outcome (Some prepared.outcome) prepared.placed → IsInsn prepared.insn → OnLong IsStarted prepared.outcome → OnMemory IsSized prepared.outcome → OnPlaced IsPlaced prepared.outcome prepared.placed → Prepares prepared done state
+pub prepares-by : (state : State) (prepared : Prepared) (operands : Operands) (done : Bool) → Met state prepared.words (Is prepared.insn) → operands ≡ operands_of prepared.insn state.regs → exec_of prepared.insn operands state.regs.cia ≡ Some prepared.outcome → prepared.placed ≡ placed_of prepared.outcome state.regs.msr → is_built_row prepared.insn ≡ true → done ≡ is_built_outcome (Some prepared.outcome) prepared.placed → IsInsn prepared.insn → OnLong IsStarted prepared.outcome → OnMemory IsSized prepared.outcome → OnPlaced IsPlaced prepared.outcome prepared.placed → Prepares prepared done state
 prepares-by state prepared operands true m o e p built done is started sized stands = prepared-is state prepared operands m o e p built (sym done) is started sized stands
 prepares-by state prepared operands false m o e p built done is started sized stands =
     unbuilt-outcome state prepared.words prepared.insn operands prepared.outcome prepared.placed m o e p (sym done)
