@@ -12,7 +12,6 @@ mod conditions;
 #[cfg(test)]
 mod logic;
 #[cfg(test)]
-mod loops;
 #[cfg(test)]
 mod programs;
 #[cfg(test)]
