@@ -1,6 +1,7 @@
-# Each instruction that runs today, once: sums, a branch, loads and stores of every width, cache, prefixed rows, and
-# results with carries, of logic, rotates and shifts, counts, permutes, products and quotients.
-        addi   r3, r0, 0x400    # r3: where the bytes stand
+# Each instruction that runs today, once or more: sums, loads and stores of every width, cache, prefixed rows, results
+# with carries, of logic, rotates and shifts, counts, permutes, products and quotients, compares, the condition
+# register, traps that don't hold, and branches.
+        addi   r3, r0, 0x800    # r3: where the bytes stand
         addis  r4, r0, -2       # r4 = fffffffffffe0000
         ori    r4, r4, 0x8081   # r4 = fffffffffffe8081
         add    r5, r3, r4
@@ -41,12 +42,12 @@ stores: stb    r4, 0(r3)
         lwz    r8, 4(r3)        # fffe8081
         lwa    r8, 4(r3)        # fffffffffffe8081
         ld     r8, 8(r3)        # fffffffffffe8081
-        li     r7, 0x400
+        li     r7, 0x800
         lbzu   r9, 0(r7)
         lhzu   r9, 2(r7)
         lhau   r9, 2(r7)
         lwzu   r9, 0(r7)
-        ldu    r9, 4(r7)        # r7 = 408
+        ldu    r9, 4(r7)        # r7 = 808
         li     r6, 0
         lbzx   r10, r7, r6
         lhzx   r10, r7, r6
@@ -84,7 +85,7 @@ stores: stb    r4, 0(r3)
         dcbst  r0, r7
         dcbf   r0, r7
         icbi   r0, r7
-        dcbz   r0, r7           # the block from 400 on becomes zeros
+        dcbz   r0, r7           # the block from 800 on becomes zeros
 
 # Prefixed rows, with a displacement of 34 bits; none of them may cross a block.
         b      wide
@@ -198,5 +199,48 @@ wide:   paddi  r15, r0, 0x10400, 0
         modsd  r31, r19, r18
         modud  r31, r19, r18
         modsw  r31, r19, r22
-        moduw  r31, r19, r3     # 81, of fffe8081 by 400
+        moduw  r31, r19, r3     # 81, of fffe8081 by 800
+
+# Compares: of -1 and 1, of a byte with a range of them, of a byte with eight.
+        cmpi   0, 1, r21, 0     # field 0 is 8: less
+        cmpli  1, 0, r21, 1     # field 1 is 4: greater, as words without a sign
+        cmp    2, 1, r22, r21   # field 2 is 4
+        cmpl   3, 1, r22, r21   # field 3 is 8
+        cmprb  4, 0, r4, r5     # field 4 is 4: 81 lies between 81 and 88
+        cmpeqb 5, r4, r18       # field 5 is 4: 81 is one of the bytes of fffe8081
+        mcrxrx 6                # field 6 is f: OV, OV32, CA and CA32
+
+# Bits of the condition register, its fields, and registers that are chosen by them.
+        crand  28, 0, 5         # 1
+        crnand 29, 0, 5         # 0
+        cror   30, 1, 5         # 1
+        crnor  31, 1, 2         # 1
+        crxor  28, 28, 30       # 0
+        crandc 29, 0, 2         # 1
+        creqv  30, 30, 29       # 1
+        crorc  31, 1, 0         # 0: field 7 is 6
+        mcrf   1, 7             # field 1 is 6
+        mfcr   r8               # 864844f6
+        mfocrf r9, 0x80         # 80000000: field 0
+        isel   r10, r21, r22, 0 # ffffffffffffffff, as bit 0 is 1
+        setb   r11, 0           # ffffffffffffffff, as field 0 says less
+        setbc  r13, 5           # 1, as bit 5 is 1
+        setbcr r14, 5           # 0
+        setnbc r15, 5           # ffffffffffffffff
+        setnbcr r16, 5          # 0
+        mtcrf  0x01, r22        # field 7 is 1
+        mtocrf 0x40, r4         # field 1 is f
+
+# Conditions of traps that don't hold.
+        tdi    16, r22, 0       # 1 is less than 0
+        twi    4, r22, 2        # equal to 2
+        td     2, r21, r22      # all ones, without a sign, is less than 1
+        tw     8, r21, r22      # -1 is greater than 1
+
+# Branches: a subroutine whose first two returns aren't taken.
+        bl     sub              # LR is the address behind it
+        bc     16, 0, here      # CTR falls from 0 to all ones: taken
+sub:    bcctr  4, 0, 0          # not taken, as bit 0 is 1
+        bctar  4, 0, 0          # likewise
+        bclr   12, 0, 0         # taken, to LR
 here:   b      here

@@ -2,7 +2,7 @@ ghost use Rattle.mw_decode.specs.Decode.{OnInsn, IsInsn};
 
 use mw_decode::{Decoded, decode, is_prefix};
 use mw_exec::{exec, is_built_row};
-use mw_isa::{Operands, Outcome, Slot, Target};
+use mw_isa::{Operands, Outcome, Slot, Target, Vector};
 
 /// What a word is, with this suffix where it is a prefix.
 fn decoded(word: u32, suffix: u32) -> Decoded
@@ -95,6 +95,7 @@ fn instructions_come_to_what_they_should(rt: HostRuntime) {
             }
             Some(Outcome::Memory(_)) => panic!(rt; "{word:x} is an access"),
             Some(Outcome::Long(_)) => panic!(rt; "{word:x} is a product or quotient"),
+            Some(Outcome::Trap { .. }) => panic!(rt; "{word:x} raises an interrupt"),
             None => panic!(rt; "{word:x} is no instruction"),
         }
     }
@@ -104,6 +105,36 @@ fn instructions_come_to_what_they_should(rt: HostRuntime) {
                 assert_eq!(rt; targets.len(), 0, "{word:x}");
                 assert_eq!(rt; next, *next_wanted, "{word:x}");
             }
+            Some(Outcome::Memory(_)) => panic!(rt; "{word:x} is an access"),
+            Some(Outcome::Long(_)) => panic!(rt; "{word:x} is a product or quotient"),
+            Some(Outcome::Trap { .. }) => panic!(rt; "{word:x} raises an interrupt"),
+            None => panic!(rt; "{word:x} is no instruction"),
+        }
+    }
+}
+
+/// A word whose trap condition holds, and what is read.
+struct Trapped(u32, [u64; 2]);
+
+#[rattlefmt::skip]
+static TRAPPED: [Trapped; 5] = [
+    Trapped(0x7fe0_0008, [5, 5]), // tw 31,r0,r0
+    Trapped(0x7c83_2088, [5, 5]), // td 4,r3,r4
+    Trapped(0x7e03_2008, [0x1_8000_0000, 0x7fff_ffff]), // tw 16,r3,r4
+    Trapped(0x0c43_ffff, [1, 7]), // twi 2,r3,-1
+    Trapped(0x0843_ffff, [1, 7]), // tdi 2,r3,-1
+];
+
+#[test]
+fn a_trap_has_its_cause(rt: HostRuntime) {
+    for Trapped(word, read) in &TRAPPED {
+        match outcome(*word, 0, *read, 0x100) {
+            Some(Outcome::Trap { vector, cause }) => {
+                assert_eq!(rt; vector, Vector::Program, "{word:x}");
+                // bit 46 of SRR1, counted from the left of 64, and no other
+                assert_eq!(rt; cause, 1 << 17, "{word:x}");
+            }
+            Some(Outcome::Done { .. }) => panic!(rt; "{word:x} is done"),
             Some(Outcome::Memory(_)) => panic!(rt; "{word:x} is an access"),
             Some(Outcome::Long(_)) => panic!(rt; "{word:x} is a product or quotient"),
             None => panic!(rt; "{word:x} is no instruction"),

@@ -1,6 +1,7 @@
 use mw_alu::AluOp;
 use mw_isa::{
-    AluRow, BranchRow, Carry, Ending, Event, Events, Inputs, Operation, Regs, Vector, operation_at,
+    AluRow, BranchRow, Carry, Ending, Event, Events, FieldRow, Inputs, Operation, PickRow, Regs,
+    TrapRow, Vector, operation_at,
 };
 use mw_tables::row_at;
 use std::test::Fail;
@@ -30,6 +31,10 @@ fn operations_go_by_the_table(rt: HostRuntime) {
         (17, "b"),
         (43, "add"),
         (6, "cmpi"),
+        (18, "bc"),
+        (114, "tw"),
+        (116, "isel"),
+        (196, "sc"),
         (212, "paddi"),
         (223, "pnop"),
     ] {
@@ -42,7 +47,14 @@ fn operations_go_by_the_table(rt: HostRuntime) {
         (10, alu(AluOp::Ori, Inputs::SourceNumber)),
         (17, Operation::Branch(BranchRow::B)),
         (43, alu(AluOp::Add, Inputs::Two)),
-        (6, Operation::Later),
+        (
+            6,
+            Operation::Field(FieldRow::CompareNumber { signed: true }),
+        ),
+        (18, Operation::Branch(BranchRow::Bc)),
+        (114, Operation::Trap(TrapRow::TrapRegister { long: false })),
+        (116, Operation::Pick(PickRow::Select)),
+        (196, Operation::Later),
         (212, alu(AluOp::Paddi, Inputs::Relative)),
         (223, Operation::Hint),
     ] {

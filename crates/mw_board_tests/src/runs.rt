@@ -60,11 +60,11 @@ const AT_ONCE: RunFault = RunFault::Unbuilt { cycle: 0, cia: 0 };
 static REFUSED: [Refused; 16] = [
     Refused(&[], 1, AT_ONCE),
     Refused(&[0x3860_0005], 2, RunFault::Unbuilt { cycle: 1, cia: 4 }), // addi r3,0,5
-    Refused(&[0x4800_0008, 0, 0x2c03_0001], 9, RunFault::Unbuilt { cycle: 1, cia: 8 }), // b 8, cmpi 0,0,r3,1, a row that isn't built yet
-    Refused(&[0x4800_0001], 1, AT_ONCE), // bl 0
-    Refused(&[0x7c03_2000], 1, AT_ONCE), // cmp 0,0,r3,r4
-    Refused(&[0x7ca0_0026], 1, AT_ONCE), // mfcr r5
-    Refused(&[0x7ca3_201e], 1, AT_ONCE), // isel r5,r3,r4,0
+    Refused(&[0x4800_0008, 0, 0x7c7a_03a6], 9, RunFault::Unbuilt { cycle: 1, cia: 8 }), // b 8, mtspr 26,r3, a row that isn't built yet
+    Refused(&[0x7c00_04ac], 1, AT_ONCE), // sync 0
+    Refused(&[0x7c60_00a6], 1, AT_ONCE), // mfmsr r3
+    Refused(&[0x7fe0_0008], 1, AT_ONCE), // tw 31,r0,r0, whose condition holds
+    Refused(&[0x4c00_0420], 1, AT_ONCE), // bcctr 0,0,0, for which CTR would fall
     Refused(&[0x4400_0002], 1, AT_ONCE), // sc
     Refused(&[0xc820_0000], 1, AT_ONCE), // lfd f1,0(0), of a facility that isn't there
     Refused(&[0xb860_0000], 1, AT_ONCE), // lmw r3,0(0), which raises alignment

@@ -83,7 +83,7 @@ fn result_field(value: u64, so: bool) -> u64
 }
 
 /// Adds the register at a place, with the result.
-fn push_result(targets: &mut ArrayVec<Target, 8>, place: Option<u8>, insn: &Insn, value: u64)
+pub fn push_result(targets: &mut ArrayVec<Target, 8>, place: Option<u8>, insn: &Insn, value: u64)
     requires place { IfSome place (IsRegister insn.now) }
     requires room { length targets.old.items < 8 }
     ensures items { targets.new.items ≡ targets.old.items ++ result_at (register_at insn.now place) value }

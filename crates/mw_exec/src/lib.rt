@@ -2,16 +2,20 @@
 #![tactic(auto)]
 
 mod arithmetic;
+mod bits;
 mod branching;
 mod ending;
+mod fields;
 mod finish;
 mod inputs;
 mod long;
 mod numbers;
 mod outcome;
+mod picking;
 mod storage;
+mod trapping;
 mod unit;
 
 pub use finish::{finished, product_out, quotient_out};
 pub use outcome::{behind_insn, next_of};
-pub use unit::{exec, exec_into, is_built, is_built_row};
+pub use unit::{exec, exec_into, is_built_row};

@@ -22,7 +22,7 @@ pub fn behind_insn(insn: &Insn, cia: u64) -> u64
 }
 
 /// The address of the instruction that follows one with this outcome, from the registers that it finds: its
-/// own next one, or that behind it. No instruction that is built takes it from a register.
+/// own next one, or that behind it; one that raises an interrupt isn't behind itself.
 pub fn next_of(insn: &Insn, outcome: &Outcome, regs: &Regs, cia: u64) -> u64
     requires { insn.now.row < row_count }
     ensures { result ≡ next_of insn.now outcome.now regs.now cia }
@@ -32,6 +32,7 @@ pub fn next_of(insn: &Insn, outcome: &Outcome, regs: &Regs, cia: u64) -> u64
         Outcome::Done { next, .. } => *next,
         Outcome::Long(_) => behind_insn(insn, cia),
         Outcome::Memory(_) => behind_insn(insn, cia),
+        Outcome::Trap { .. } => cia,
     }
 }
 

@@ -3,13 +3,16 @@ ghost use Rattle.mw_decode.specs.Decode.{IsInsn};
 ghost use Rattle.mw_isa.specs.Storage.{IsSized, OnMemory};
 ghost use Rattle.mw_isa.specs.Execute.{exec_of, is_built_row};
 ghost use Rattle.mw_isa.specs.Long.{IsStarted};
-ghost use Rattle.mw_isa.specs.Step.{OnLong, is_built};
+ghost use Rattle.mw_isa.specs.Step.{OnLong};
 
 use crate::arithmetic::arithmetic_of;
 use crate::branching::branch_of;
+use crate::fields::{field_of, fields_of};
 use crate::long::{product_by, quotient_by};
 use crate::outcome::{behind_insn, branch_to};
+use crate::picking::pick_of;
 use crate::storage::storage_of;
+use crate::trapping::trap_of;
 use arrayvec::ArrayVec;
 use mw_decode::Insn;
 use mw_isa::{Operands, Operation, Outcome, operation_at};
@@ -24,23 +27,19 @@ pub fn is_built_row(insn: &Insn) -> bool
         Operation::Product(_) => true,
         Operation::Quotient(_) => true,
         Operation::Branch(_) => true,
+        Operation::Field(_) => true,
+        Operation::Fields => true,
+        Operation::Pick(_) => true,
+        Operation::Trap(_) => true,
         Operation::Storage(_) => true,
         Operation::Hint => true,
         Operation::Later => false,
     }
 }
 
-/// Whether an instruction is built: its row is, and LK is 0.
-pub fn is_built(insn: &Insn) -> bool
-    requires { IsInsn insn.now }
-    ensures { result ≡ is_built insn.now }
-{
-    is_built_row(insn) && !insn.lk
-}
-
 /// What an instruction at the effective address `cia` comes to, from the registers that it reads: what
-/// it writes, and the address of the next one (Book I), written over `outcome`, whatever that was. Its row has
-/// to be built. LK isn't looked at: the forms that have it are for the caller to refuse.
+/// it writes and the address of the next one, or the interrupt that it raises (Book I), written over
+/// `outcome`, whatever that was. Its row has to be built.
 #[tactic(auto, unfolding(mw_isa::specs::Execute::exec_of))]
 pub fn exec_into(insn: &Insn, operands: &Operands, cia: u64, outcome: &mut Outcome)
     requires insn { IsInsn insn.now }
@@ -54,6 +53,10 @@ pub fn exec_into(insn: &Insn, operands: &Operands, cia: u64, outcome: &mut Outco
         Operation::Product(row) => *outcome = Outcome::Long(product_by(row, insn, operands)),
         Operation::Quotient(row) => *outcome = Outcome::Long(quotient_by(row, insn, operands)),
         Operation::Branch(row) => branch_of(row, insn, operands, cia, outcome),
+        Operation::Field(row) => field_of(row, insn, operands, cia, outcome),
+        Operation::Fields => fields_of(insn, operands, cia, outcome),
+        Operation::Pick(row) => pick_of(row, insn, operands, cia, outcome),
+        Operation::Trap(row) => trap_of(row, insn, operands, cia, outcome),
         Operation::Storage(row) => storage_of(row, insn, operands, cia, outcome),
         Operation::Hint => branch_to(behind_insn(insn, cia), outcome),
         Operation::Later => unreachable!(),

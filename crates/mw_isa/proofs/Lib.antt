@@ -2,6 +2,7 @@
 pub mod SlotLaws
 pub mod RowLaws
 pub mod ReadLaws
+pub mod NextLaws
 pub mod LongLaws
 pub mod StepLaws
 pub mod ReplayLaws

@@ -1,36 +1,43 @@
 -- What an instruction reads and writes of the registers, known from the instruction alone.
-use Rattle.std.proofs.Common.{◌≡◌, ℕ, zero, suc, ◌+◌, ◌*◌, Bool, true, false, ◌||◌, cond, List, [], ◌∷◌, ◌++◌, Option, Some, None, option_and_then, slice_get, refl, sym, ap, ap₂, ◌∙◌, subst}
+use Rattle.std.proofs.Common.{◌≡◌, ℕ, zero, suc, ◌+◌, ◌*◌, ◌%◌, ◌^◌, ◌<◌, ◌≤◌, arith, Bool, true, false, cond, List, [], ◌∷◌, ◌++◌, Option, Some, None, option_and_then, slice_get, refl, sym, ap, ap₂, ◌∙◌}
 use Rattle.std.specs.Option.{option_map_or}
+use Rattle.std.proofs.lemmas.List.{map-append}
+use Rattle.std.proofs.lemmas.Nat.{pow-add}
+use Rattle.std.proofs.Math.Pow.{pow_mono}
 use Rattle.mw_alu.specs.declared.op.AluOut.{AluOut}
 use Rattle.mw_decode.specs.declared.insn.Insn.{Insn}
 use Rattle.mw_isa.specs.declared.memory.MemOp.{MemOp}
 use Rattle.mw_isa.specs.declared.memory.MemWhat.{MemWhat}
 use Rattle.mw_isa.specs.declared.memory.MemWhat.TheVariants.{Load, Store, Conditional, Zero, Clean, Icbi}
-use Rattle.mw_isa.specs.declared.operation.BranchRow.TheVariants.{B}
 use Rattle.mw_isa.specs.declared.operation.Ending.{Ending}
 use Rattle.mw_isa.specs.declared.operation.Operation.{Operation}
-use Rattle.mw_isa.specs.declared.operation.Operation.TheVariants.{Alu, Product, Quotient, Branch, Storage, Hint, Later}
+use Rattle.mw_isa.specs.declared.operation.Operation.TheVariants.{Alu, Product, Quotient, Branch, Field, Fields, Pick, Trap, Storage, Hint, Later}
 use Rattle.mw_isa.specs.declared.outcome.Operands.{Operands}
+use Rattle.mw_isa.specs.declared.outcome.Target.{Target}
 use Rattle.mw_isa.specs.declared.long.LongOp.{LongOp}
 use Rattle.mw_isa.specs.declared.long.LongOp.TheVariants.{Mul, Div}
 use Rattle.mw_isa.specs.declared.outcome.Outcome.{Outcome}
-use Rattle.mw_isa.specs.declared.outcome.Outcome.TheVariants.{Long}
+use Rattle.mw_isa.specs.declared.outcome.Outcome.TheVariants.{Long, Trap as Trapped}
 use Rattle.mw_isa.specs.declared.place.Places.{Places}
 use Rattle.mw_isa.specs.declared.slot.Slot.{Slot}
 use Rattle.mw_isa.specs.declared.slot.Slot.TheVariants.{Gpr, CrField, Xer, Lr, Ctr, Tar}
 use Rattle.mw_isa.specs.declared.sources.Sources.{Sources}
+use Rattle.mw_isa.specs.declared.sources.Special.{Special}
+use Rattle.mw_isa.specs.declared.vector.Vector.TheVariants.{Program}
 use Rattle.mw_isa.specs.declared.xer.XerBits.{XerBits}
-use Rattle.mw_isa.specs.Endings.{field_if, writes_field, writes_xer, xer_if}
+use Rattle.mw_isa.specs.Branches.{count_of, falls}
+use Rattle.mw_isa.specs.Condition.{cr_field, is_chosen}
+use Rattle.mw_isa.specs.Endings.{slot_if, writes_field, writes_xer}
+use Rattle.mw_isa.specs.Special.{bo_of, fields_in, named_slots, nothing, slots_in, special_of, special_slots}
 use Rattle.mw_isa.specs.Xer.{bits_after, xer_bits}
 use Rattle.mw_isa.specs.Storage.{access_targets, update_targets}
-use Rattle.mw_isa.specs.Execute.{end_with, ended, out_of, effect_of, arithmetic_of, product_by, quotient_by, branch_of, storage_of, branch_to, behind_insn, exec_of}
+use Rattle.mw_isa.specs.Execute.{end_with, ended, out_of, effect_of, arithmetic_of, product_by, quotient_by, branch_of, count_target, link_target, field_of, field_targets, fields_of, pick_of, picked_of, result_at, trap_cause, trap_of, traps, storage_of, branch_to, behind_insn, exec_of}
 use Rattle.mw_isa.specs.Finish.{bits_behind, finished}
 use Rattle.mw_isa.specs.Operations.{operations}
-use Rattle.mw_isa.specs.Places.{places_of}
-use Rattle.mw_isa.specs.Reads.{Agree, fields_of, has_slot, held, no_sources, operands_at, operands_by, operands_in, part_of, read_slots, reads_by, reads_of, slots_in, sources_at, special_reads, register_at}
-use Rattle.mw_isa.specs.Slots.{bits_of, bits_with, same_slot, slots_of}
+use Rattle.mw_isa.specs.Places.{operand_of, places_of}
+use Rattle.mw_isa.specs.Reads.{Agree, chosen_digits, held, no_sources, operands_at, operands_by, operands_in, part_if, read_slots, reads_by, reads_of, sources_at, register_at}
+use Rattle.mw_isa.specs.Slots.{bits_of, bits_upon, bits_with, known, slots_of}
 use Rattle.mw_isa.specs.Targets.{access_slots, ending_slots, long_slots, targets_by, targets_of, update_slots, written_slots}
-use Rattle.mw_isa.proofs.SlotLaws.{same_slot-is}
 
 -- the bits of a list that begins with a register, if there is one
 bits_of-front : (slot : Option Slot) (slots : List Slot) → bits_of (slots_in slot ++ slots) ≡ bits_with slot (bits_of slots)
@@ -48,67 +55,129 @@ slots_in-bits : (slot : Option Slot) → bits_of (slots_in slot) ≡ bits_with s
 slots_in-bits None = refl
 slots_in-bits (Some slot) = refl
 
+-- the bits of two lists, one behind the other
+bits_of-append : (slots others : List Slot) → bits_of (slots ++ others) ≡ bits_upon slots (bits_of others)
+bits_of-append [] others = refl
+bits_of-append (slot ∷ slots) others = ap (bits_with (Some slot)) (bits_of-append slots others)
+
+bits_upon-append : (slots others : List Slot) (bits : ℕ) → bits_upon (slots ++ others) bits ≡ bits_upon slots (bits_upon others bits)
+bits_upon-append [] others bits = refl
+bits_upon-append (slot ∷ slots) others bits = ap (bits_with (Some slot)) (bits_upon-append slots others bits)
+
+bits_upon-one : (slot : Option Slot) (bits : ℕ) → bits_upon (slots_in slot) bits ≡ bits_with slot bits
+bits_upon-one None bits = refl
+bits_upon-one (Some slot) bits = refl
+
+-- the bits of the fields that a mask chooses, from the last to the first
+pub fields_in-bits : (mask n bits : ℕ) → bits_upon (fields_in mask (suc n)) bits ≡ bits_upon (fields_in mask n) (bits_with (slot_if (is_chosen mask n) (CrField n)) bits)
+fields_in-bits mask n bits =
+    bits_upon-append (fields_in mask n) (slots_in (slot_if (is_chosen mask n) (CrField n))) bits
+    ∙ ap (bits_upon (fields_in mask n)) (bits_upon-one (slot_if (is_chosen mask n) (CrField n)) bits)
+
+-- so a set that gets the last of them has the bits of all
+pub fields_in-back : (mask k n before after : ℕ) (slot : Option Slot) → suc k ≡ n → slot ≡ slot_if (is_chosen mask k) (CrField k) → after ≡ bits_with slot before → bits_upon (fields_in mask k) after ≡ bits_upon (fields_in mask n) before
+fields_in-back mask k n before after slot next is e =
+    ap (bits_upon (fields_in mask k)) (e ∙ ap (λ (o : Option Slot). bits_with o before) is)
+    ∙ sym (fields_in-bits mask k before)
+    ∙ ap (λ (m : ℕ). bits_upon (fields_in mask m) before) next
+
+-- a set without others has the bits of a list
+pub bits_upon-none : (slots : List Slot) → bits_upon slots 0 ≡ bits_of slots
+bits_upon-none [] = refl
+bits_upon-none (slot ∷ slots) = ap (bits_with (Some slot)) (bits_upon-none slots)
+
+-- the bits of the four registers behind them
+named_slots-bits : (special : Special) → bits_of (named_slots special) ≡ bits_with (slot_if special.xer Xer) (bits_with (slot_if special.lr Lr) (bits_with (slot_if special.ctr Ctr) (bits_with (slot_if special.tar Tar) 0)))
+named_slots-bits special =
+    bits_of-front (slot_if special.xer Xer) (slots_in (slot_if special.lr Lr) ++ (slots_in (slot_if special.ctr Ctr) ++ slots_in (slot_if special.tar Tar)))
+    ∙ ap (bits_with (slot_if special.xer Xer)) (
+    bits_of-front (slot_if special.lr Lr) (slots_in (slot_if special.ctr Ctr) ++ slots_in (slot_if special.tar Tar))
+    ∙ ap (bits_with (slot_if special.lr Lr)) (
+    bits_of-front (slot_if special.ctr Ctr) (slots_in (slot_if special.tar Tar))
+    ∙ ap (bits_with (slot_if special.ctr Ctr)) (slots_in-bits (slot_if special.tar Tar))
+    )
+    )
+
+-- the bits of what is read beside the operands
+pub special_slots-bits : (special : Special) → bits_of (special_slots special) ≡ bits_upon (fields_in special.fields 8) (bits_with (slot_if special.xer Xer) (bits_with (slot_if special.lr Lr) (bits_with (slot_if special.ctr Ctr) (bits_with (slot_if special.tar Tar) 0))))
+special_slots-bits special =
+    bits_of-append (fields_in special.fields 8) (named_slots special)
+    ∙ ap (bits_upon (fields_in special.fields 8)) (named_slots-bits special)
+
 -- the registers that are read, once the operation is known
 reads_of-known : (insn : Insn) (operation : Operation) → slice_get operations insn.row ≡ Some operation → reads_of insn ≡ reads_by operation insn
 unfolding reads_of
 reads_of-known insn operation e = ap (λ (o : Option Operation). option_map_or (λ known. reads_by known insn) o []) e
 
--- their bits, once the operation, its sources and the register that it reads beside them are known
-pub reads_of-bits : (insn : Insn) (operation : Operation) (sources : Sources) (special : Option Slot) → slice_get operations insn.row ≡ Some operation → sources ≡ sources_at (places_of operation) insn → special_reads operation insn ≡ slots_in special → bits_of (reads_of insn) ≡ bits_with sources.a (bits_with sources.b (bits_with sources.c (bits_with special 0)))
-reads_of-bits insn operation sources special at are beside =
+-- their bits, once the operation and its sources are known
+pub reads_of-bits : (insn : Insn) (operation : Operation) (sources : Sources) → slice_get operations insn.row ≡ Some operation → sources ≡ sources_at (places_of operation) insn → bits_of (reads_of insn) ≡ bits_with sources.a (bits_with sources.b (bits_with sources.c (bits_of (special_slots (special_of operation insn)))))
+reads_of-bits insn operation sources at are =
     ap bits_of (reads_of-known insn operation at)
-    ∙ read_slots-bits (sources_at (places_of operation) insn) (special_reads operation insn)
-    ∙ ap (λ (s : Sources). bits_with s.a (bits_with s.b (bits_with s.c (bits_of (special_reads operation insn))))) (sym are)
-    ∙ ap (λ n. bits_with sources.a (bits_with sources.b (bits_with sources.c n))) (ap bits_of beside ∙ slots_in-bits special)
+    ∙ read_slots-bits (sources_at (places_of operation) insn) (special_slots (special_of operation insn))
+    ∙ ap (λ (s : Sources). bits_with s.a (bits_with s.b (bits_with s.c (bits_of (special_slots (special_of operation insn)))))) (sym are)
 
--- a register of a list on which two views agree
-seen-agree : (view other : Slot → ℕ) (slot first : Slot) (slots : List Slot) (here : Bool) → same_slot first slot ≡ here → (here || has_slot slot slots) ≡ true → view first ≡ other first → (has_slot slot slots ≡ true → view slot ≡ other slot) → view slot ≡ other slot
-seen-agree view other slot first slots true is has same rest = let e = same_slot-is first slot is in subst (λ (s : Slot). view s ≡ other s) e same
-seen-agree view other slot first slots false is has same rest = rest has
+-- so many fields stand in as many digits
+pub chosen_digits-lt : (view : Slot → ℕ) (mask n : ℕ) → chosen_digits view mask n < 2 ^ (4 * n)
+chosen_digits-lt view mask zero = omega arith
+chosen_digits-lt view mask (suc n) =
+    let more : 4 * suc n ≡ 4 * n + 4 = omega arith in
+    let wide : 2 ^ (4 * suc n) ≡ 2 ^ (4 * n) * 16 = ap (λ (k : ℕ). 2 ^ k) more ∙ pow-add 2 (4 * n) 4 in
+    omega (arith, chosen_digits-lt view mask n)
 
-agree-at : (view other : Slot → ℕ) (slot : Slot) (slots : List Slot) → Agree view other slots → has_slot slot slots ≡ true → view slot ≡ other slot
-agree-at view other slot [] agree has = cc
-agree-at view other slot (first ∷ slots) agree has =
-    seen-agree view other slot first slots (same_slot first slot) refl has agree.0 (agree-at view other slot slots agree.1)
+-- seven of them leave room for another one
+pub chosen_digits-room : (view : Slot → ℕ) (mask n : ℕ) → n < 8 → chosen_digits view mask n < 2 ^ 28
+chosen_digits-room view mask n few =
+    let few_digits : 4 * n ≤ 28 = omega arith in
+    let most : 2 ^ (4 * n) ≤ 2 ^ 28 = pow_mono few_digits in
+    omega (arith, chosen_digits-lt view mask n)
 
--- one of two values, which is one where it counts
-cond-agree : (b : Bool) (x y : ℕ) → (b ≡ true → x ≡ y) → cond b x 0 ≡ cond b y 0
-cond-agree true x y h = h refl
-cond-agree false x y h = refl
+-- two views that agree on two lists, one behind the other, agree on each
+agree-append : (view other : Slot → ℕ) (slots others : List Slot) → Agree view other (slots ++ others) → Agree view other slots × Agree view other others
+agree-append view other [] others agree = (tt, agree)
+agree-append view other (slot ∷ slots) others agree =
+    let rest = agree-append view other slots others agree.1 in
+    ((agree.0, rest.0), rest.1)
 
-part_of-agree : (view other : Slot → ℕ) (slots : List Slot) (slot : Slot) → Agree view other slots → part_of view slots slot ≡ part_of other slots slot
-part_of-agree view other slots slot agree = cond-agree (has_slot slot slots) (view slot) (other slot) (agree-at view other slot slots agree)
+-- so they do on a register that is asked
+part_if-agree : (view other : Slot → ℕ) (asked : Bool) (slot : Slot) → Agree view other (slots_in (slot_if asked slot)) → part_if asked view slot ≡ part_if asked other slot
+part_if-agree view other true slot agree = agree.0
+part_if-agree view other false slot agree = refl
 
-fields_of-agree : (view other : Slot → ℕ) (slots : List Slot) (n : ℕ) → Agree view other slots → fields_of view slots n ≡ fields_of other slots n
-fields_of-agree view other slots zero agree = refl
-fields_of-agree view other slots (suc n) agree =
-    ap₂ (λ (x : ℕ) (y : ℕ). x * 16 + y) (fields_of-agree view other slots n agree) (part_of-agree view other slots (CrField n) agree)
+-- and on the fields that a mask chooses
+chosen_digits-agree : (view other : Slot → ℕ) (mask n : ℕ) → Agree view other (fields_in mask n) → chosen_digits view mask n ≡ chosen_digits other mask n
+chosen_digits-agree view other mask zero agree = refl
+chosen_digits-agree view other mask (suc n) agree =
+    let both = agree-append view other (fields_in mask n) (slots_in (slot_if (is_chosen mask n) (CrField n))) agree in
+    ap₂ (λ (x : ℕ) (y : ℕ). x * 16 + y % 16) (chosen_digits-agree view other mask n both.0) (part_if-agree view other (is_chosen mask n) (CrField n) both.1)
 
 -- two views that agree on a list agree on its first register, if there is one, and on the others
 agree-front : (view other : Slot → ℕ) (slot : Option Slot) (slots : List Slot) → Agree view other (slots_in slot ++ slots) → (held view slot ≡ held other slot) × Agree view other slots
 agree-front view other None slots agree = (refl, agree)
 agree-front view other (Some slot) slots agree = (agree.0, agree.1)
 
-operands_by-agree : (sources : Sources) (special : List Slot) (view other : Slot → ℕ) (msr : ℕ) → Agree view other (read_slots sources special) → operands_by sources special view msr ≡ operands_by sources special other msr
+operands_by-agree : (sources : Sources) (special : Special) (view other : Slot → ℕ) (msr : ℕ) → Agree view other (read_slots sources (special_slots special)) → operands_by sources special view msr ≡ operands_by sources special other msr
 operands_by-agree sources special view other msr agree =
-    let a = agree-front view other sources.a (slots_in sources.b ++ (slots_in sources.c ++ special)) agree in
-    let b = agree-front view other sources.b (slots_in sources.c ++ special) a.1 in
-    let c = agree-front view other sources.c special b.1 in
-    let part : (slot : Slot) → part_of view special slot ≡ part_of other special slot = λ slot. part_of-agree view other special slot c.1 in
+    let a = agree-front view other sources.a (slots_in sources.b ++ (slots_in sources.c ++ special_slots special)) agree in
+    let b = agree-front view other sources.b (slots_in sources.c ++ special_slots special) a.1 in
+    let c = agree-front view other sources.c (special_slots special) b.1 in
+    let fields = agree-append view other (fields_in special.fields 8) (named_slots special) c.1 in
+    let xer = agree-append view other (slots_in (slot_if special.xer Xer)) (slots_in (slot_if special.lr Lr) ++ (slots_in (slot_if special.ctr Ctr) ++ slots_in (slot_if special.tar Tar))) fields.1 in
+    let lr = agree-append view other (slots_in (slot_if special.lr Lr)) (slots_in (slot_if special.ctr Ctr) ++ slots_in (slot_if special.tar Tar)) xer.1 in
+    let ctr = agree-append view other (slots_in (slot_if special.ctr Ctr)) (slots_in (slot_if special.tar Tar)) lr.1 in
     let a_is : held view sources.a ≡ held other sources.a = a.0 in
     let b_is : held view sources.b ≡ held other sources.b = b.0 in
     let c_is : held view sources.c ≡ held other sources.c = c.0 in
-    let cr_is : fields_of view special 8 ≡ fields_of other special 8 = fields_of-agree view other special 8 c.1 in
-    let xer_is : part_of view special Xer ≡ part_of other special Xer = part Xer in
-    let lr_is : part_of view special Lr ≡ part_of other special Lr = part Lr in
-    let ctr_is : part_of view special Ctr ≡ part_of other special Ctr = part Ctr in
-    let tar_is : part_of view special Tar ≡ part_of other special Tar = part Tar in
+    let cr_is : chosen_digits view special.fields 8 ≡ chosen_digits other special.fields 8 = chosen_digits-agree view other special.fields 8 fields.0 in
+    let xer_is : part_if special.xer view Xer ≡ part_if special.xer other Xer = part_if-agree view other special.xer Xer xer.0 in
+    let lr_is : part_if special.lr view Lr ≡ part_if special.lr other Lr = part_if-agree view other special.lr Lr lr.0 in
+    let ctr_is : part_if special.ctr view Ctr ≡ part_if special.ctr other Ctr = part_if-agree view other special.ctr Ctr ctr.0 in
+    let tar_is : part_if special.tar view Tar ≡ part_if special.tar other Tar = part_if-agree view other special.tar Tar ctr.1 in
     cc
 
-operands-agree : (operation : Option Operation) (insn : Insn) (view other : Slot → ℕ) (msr : ℕ) → Agree view other (option_map_or (λ known. reads_by known insn) operation []) → option_map_or (λ known. operands_at known insn view msr) operation (operands_by no_sources [] view msr) ≡ option_map_or (λ known. operands_at known insn other msr) operation (operands_by no_sources [] other msr)
+operands-agree : (operation : Option Operation) (insn : Insn) (view other : Slot → ℕ) (msr : ℕ) → Agree view other (option_map_or (λ known. reads_by known insn) operation []) → option_map_or (λ known. operands_at known insn view msr) operation (operands_by no_sources nothing view msr) ≡ option_map_or (λ known. operands_at known insn other msr) operation (operands_by no_sources nothing other msr)
 operands-agree None insn view other msr agree = refl
 operands-agree (Some operation) insn view other msr agree =
-    operands_by-agree (sources_at (places_of operation) insn) (special_reads operation insn) view other msr agree
+    operands_by-agree (sources_at (places_of operation) insn) (special_of operation insn) view other msr agree
 
 -- an instruction's operands are those that it reads: two views that agree on these give the same
 pub operands_in-agree : (insn : Insn) (view other : Slot → ℕ) (msr : ℕ) → Agree view other (reads_of insn) → operands_in insn view msr ≡ operands_in insn other msr
@@ -116,7 +185,7 @@ unfolding reads_of operands_in
 operands_in-agree insn view other msr agree = operands-agree (slice_get operations insn.row) insn view other msr agree
 
 -- the registers of a result, of XER and of CR field 0, each where it is written
-ended-by : (slot : Option Slot) (value : ℕ) (xer field : Bool) (bits : XerBits) → slots_of (end_with slot value xer field bits) ≡ slots_in slot ++ slots_in (xer_if xer) ++ slots_in (field_if field)
+ended-by : (slot : Option Slot) (value : ℕ) (xer field : Bool) (bits : XerBits) → slots_of (end_with slot value xer field bits) ≡ slots_in slot ++ slots_in (slot_if xer Xer) ++ slots_in (slot_if field (CrField 0))
 ended-by None value true true bits = refl
 ended-by None value true false bits = refl
 ended-by None value false true bits = refl
@@ -130,6 +199,35 @@ ended-slots : (ending : Ending) (places : Places) (insn : Insn) (out : AluOut) (
 ended-slots ending places insn out xer =
     ended-by (register_at insn places.written) out.value (writes_xer ending insn) (writes_field ending insn) (bits_after ending insn out (xer_bits xer))
 
+-- a branch's registers: CTR where it falls, LR with LK
+branch-slots : (bo : ℕ) (lk : Bool) (ctr cia : ℕ) (down : Bool) → falls bo ≡ down → slots_of (count_target bo ctr ++ link_target lk cia) ≡ slots_in (slot_if down Ctr) ++ slots_in (slot_if lk Lr)
+branch-slots bo true ctr cia true e = ap (λ (b : Bool). slots_of (cond b (known Ctr (count_of bo ctr) ∷ []) [] ++ link_target true cia)) e
+branch-slots bo false ctr cia true e = ap (λ (b : Bool). slots_of (cond b (known Ctr (count_of bo ctr) ∷ []) [] ++ link_target false cia)) e
+branch-slots bo true ctr cia false e = ap (λ (b : Bool). slots_of (cond b (known Ctr (count_of bo ctr) ∷ []) [] ++ link_target true cia)) e
+branch-slots bo false ctr cia false e = ap (λ (b : Bool). slots_of (cond b (known Ctr (count_of bo ctr) ∷ []) [] ++ link_target false cia)) e
+
+-- those of a field that is set or not
+chosen-slots : (b : Bool) (n value : ℕ) → slots_of (cond b (known (CrField n) value ∷ []) []) ≡ slots_in (slot_if b (CrField n))
+chosen-slots true n value = refl
+chosen-slots false n value = refl
+
+-- the fields that a mask chooses
+fields-slots : (mask value n : ℕ) → slots_of (field_targets mask value n) ≡ fields_in mask n
+fields-slots mask value zero = refl
+fields-slots mask value (suc n) =
+    map-append (λ (target : Target). target.slot) (field_targets mask value n) (cond (is_chosen mask n) (known (CrField n) (cr_field value n) ∷ []) [])
+    ∙ ap₂ (λ (xs ys : List Slot). xs ++ ys) (fields-slots mask value n) (chosen-slots (is_chosen mask n) n (cr_field value n))
+
+-- a result's register
+result-slots : (slot : Option Slot) (value : ℕ) → slots_of (result_at slot value) ≡ slots_in slot
+result-slots None value = refl
+result-slots (Some slot) value = refl
+
+-- a trap writes none
+trap-slots : (b : Bool) (next : ℕ) → written_slots (cond b (Trapped Program trap_cause) (branch_to next)) ≡ []
+trap-slots true next = refl
+trap-slots false next = refl
+
 -- what an operation comes to writes the registers that it is known to write
 effect-slots : (operation : Operation) (insn : Insn) (o : Operands) (cia : ℕ) (outcome : Outcome) → effect_of operation insn o cia ≡ Some outcome → written_slots outcome ≡ targets_by operation insn
 effect-slots (Alu row) insn o cia outcome e =
@@ -141,9 +239,21 @@ effect-slots (Product row) insn o cia outcome e =
 effect-slots (Quotient row) insn o cia outcome e =
     let is : Long (quotient_by row insn o) ≡ outcome = cc in
     ap written_slots (sym is)
-effect-slots (Branch B) insn o cia outcome e =
-    let is : branch_of B insn o cia ≡ outcome = cc in
+effect-slots (Branch row) insn o cia outcome e =
+    let is : branch_of row insn o cia ≡ outcome = cc in
+    ap written_slots (sym is) ∙ branch-slots (bo_of row insn) insn.lk o.ctr cia (falls (bo_of row insn)) refl
+effect-slots (Field row) insn o cia outcome e =
+    let is : field_of row insn o cia ≡ outcome = cc in
     ap written_slots (sym is)
+effect-slots Fields insn o cia outcome e =
+    let is : fields_of insn o cia ≡ outcome = cc in
+    ap written_slots (sym is) ∙ fields-slots (operand_of insn 0) o.a 8
+effect-slots (Pick row) insn o cia outcome e =
+    let is : pick_of row insn o cia ≡ outcome = cc in
+    ap written_slots (sym is) ∙ result-slots (register_at insn (places_of (Pick row)).written) (picked_of row insn o cia)
+effect-slots (Trap row) insn o cia outcome e =
+    let is : trap_of row insn o cia ≡ outcome = cc in
+    ap written_slots (sym is) ∙ trap-slots (traps row insn o) (behind_insn insn cia)
 effect-slots (Storage row) insn o cia outcome e =
     let is : storage_of row insn o cia ≡ outcome = cc in
     ap written_slots (sym is)

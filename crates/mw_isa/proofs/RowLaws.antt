@@ -1,19 +1,21 @@
 -- What holds of each row of the instruction table.
-use Rattle.std.proofs.Common.{◌≡◌, ℕ, zero, suc, ◌+◌, ◌*◌, ◌^◌, ◌<◌, ◌==◌, Bool, true, false, not, ◌&&◌, cond, ℤ, pos, List, [], ◌∷◌, map, Option, Some, None, IfSome, IsSomeAnd, option_map, slice_get, refl, sym, ap, ◌∙◌, subst, arith}
+use Rattle.std.proofs.Common.{◌≡◌, ℕ, zero, suc, ◌+◌, ◌-◌, ◌*◌, ◌%◌, ◌^◌, ◌<◌, ◌≤◌, ◌==◌, nat_lt, nat_le, Bool, true, false, not, ◌&&◌, cond, ℤ, pos, List, [], ◌∷◌, map, Option, Some, None, IfSome, IsSomeAnd, option_map, slice_get, refl, sym, ap, ◌∙◌, subst, arith}
 use Rattle.std.specs.Int.{w64, cast_unsigned}
-use Rattle.std.proofs.lemmas.Bool.{and_parts, eqb-true, not-true}
+use Rattle.std.proofs.lemmas.Bool.{and_parts, eqb-true, leb-true, not-true}
+use Rattle.std.proofs.Math.Pow.{pow_mono}
+use Rattle.std.proofs.lemmas.Nat.{pow-add}
+use Rattle.std.specs.Prelude.{◌-ℤ◌}
+use Rattle.mw_tables.proofs.FieldLaws.{cast_unsigned-negative}
 use Rattle.mw_tables.specs.declared.layout.Field.{Field}
 use Rattle.mw_tables.specs.declared.layout.Layout.{Layout}
 use Rattle.mw_tables.specs.Row.{TableRow}
 use Rattle.mw_tables.specs.Rows.{lines, table, layouts}
-use Rattle.mw_tables.specs.Layouts.{fields_of, width_of, operand_at, InRange, HasOperands}
+use Rattle.mw_tables.specs.Layouts.{fields_of, width_of, signed_of, operand_at, InRange, HasOperands}
 use Rattle.mw_decode.specs.declared.insn.Insn.{Insn}
 use Rattle.mw_decode.specs.Decode.{IsInsn}
-use Rattle.mw_isa.specs.declared.operation.AluRow.{AluRow}
 use Rattle.mw_isa.specs.declared.operation.Operation.{Operation}
-use Rattle.mw_isa.specs.declared.operation.Operation.TheVariants.{Alu}
 use Rattle.mw_isa.specs.Operations.{OperationLine, operations, operation_lines}
-use Rattle.mw_isa.specs.Places.{Role, Written, First, Base, Second, Third, Kept, is_written, is_first, is_base, is_second, is_third, roles_by, limit_of, place_in, places_in, places_by, places_of, IsLimited, AreOperands, AreLimited, IsReadyBy, IsReady, IsRegister, HasRegisters, input_roles, operand_of}
+use Rattle.mw_isa.specs.Places.{Role, Written, First, Base, Second, Third, Kept, is_written, is_first, is_base, is_second, is_third, roles_by, Limit, Free, Below, InWords, limit_of, place_in, places_in, places_by, places_of, IsLimited, AreOperands, AreLimited, HasLimitsBy, HasLimits, IsReadyBy, IsReady, IsRegister, HasRegisters, operand_of}
 
 -- the list of operations names the rows of the table, in the table's order
 pub operations-named : map (λ (line : OperationLine). line.name) operation_lines ≡ map (λ (row : TableRow). row.name) table
@@ -24,10 +26,15 @@ operations-named = refl
 abbrev is_plain_field : ℕ → Field → Bool
 is_plain_field bits f = (width_of f == bits) && ((f.shift == 0) && not f.signed)
 
+-- a field that holds a signed multiple of 4 in at most 62 bits
+abbrev is_word_field : Field → Bool
+is_word_field f = (f.shift == 2) && (f.signed && nat_le (width_of f) 62)
+
 -- a field is as is asked
-abbrev is_as_asked : Option ℕ → Field → Bool
-is_as_asked None f = true
-is_as_asked (Some bits) f = is_plain_field bits f
+abbrev is_as_asked : Limit → Field → Bool
+is_as_asked Free f = true
+is_as_asked (Below bits) f = is_plain_field bits f
+is_as_asked InWords f = is_word_field f
 
 -- there are as many fields as roles, and each is as its role asks
 abbrev are_as_asked : List Role → List Field → Bool
@@ -81,10 +88,31 @@ below-in bits f z is range =
     let same : z ≡ pos range.0 = value ∙ rw shift (ap pos (omega arith)) in
     subst (λ (v : ℤ). cast_unsigned w64 v < 2 ^ bits) (sym same) small
 
+-- a signed number of some bits that is a multiple of 4 is one in 64 bits
+word-signed : (b : Bool) (n width : ℕ) → n < 2 ^ width → width ≤ 62 → cast_unsigned w64 (cond b (pos (n * 4)) (pos (n * 4) -ℤ pos (2 ^ width * 4))) % 4 ≡ 0
+word-signed true n width small fits = omega arith
+word-signed false n width small fits =
+    let room : 2 ^ width ≤ 2 ^ 62 = pow_mono fits in
+    ap (λ (v : ℕ). v % 4) (cast_unsigned-negative (n * 4) (2 ^ width * 4) (omega arith) (omega arith)) ∙ omega arith
+
+words-in : (f : Field) (z : ℤ) → is_word_field f ≡ true → InRange f z → cast_unsigned w64 z % 4 ≡ 0
+words-in f z is range =
+    let parts = and_parts _ _ is in
+    let rest = and_parts _ _ parts.1 in
+    let shift : f.shift ≡ 2 = eqb-true _ _ parts.0 in
+    let signed : f.signed ≡ true = rest.0 in
+    let fits : width_of f ≤ 62 = leb-true _ _ rest.1 in
+    let value : z ≡ signed_of (width_of f + f.shift) (range.0 * 2 ^ f.shift) = range.2 ∙ ap (λ (b : Bool). cond b (signed_of (width_of f + f.shift) (range.0 * 2 ^ f.shift)) (pos (range.0 * 2 ^ f.shift))) signed in
+    let same : z ≡ signed_of (width_of f + 2) (range.0 * 4) = value ∙ ap (λ (n : ℕ). signed_of (width_of f + n) (range.0 * 2 ^ n)) shift in
+    let whole : 2 ^ (width_of f + 2) ≡ 2 ^ width_of f * 4 = pow-add 2 (width_of f) 2 in
+    let plain : z ≡ cond (nat_lt (range.0 * 4) (2 ^ (width_of f + 2 - 1))) (pos (range.0 * 4)) (pos (range.0 * 4) -ℤ pos (2 ^ width_of f * 4)) = same ∙ ap (λ (n : ℕ). cond (nat_lt (range.0 * 4) (2 ^ (width_of f + 2 - 1))) (pos (range.0 * 4)) (pos (range.0 * 4) -ℤ pos n)) whole in
+    ap (λ (v : ℤ). cast_unsigned w64 v % 4) plain ∙ word-signed (nat_lt (range.0 * 4) (2 ^ (width_of f + 2 - 1))) range.0 (width_of f) range.1 fits
+
 -- an operand is as its field was asked to be
-limited-in : (limit : Option ℕ) (f : Field) (z : ℤ) → is_as_asked limit f ≡ true → InRange f z → IsLimited limit (cast_unsigned w64 z)
-limited-in None f z is range = tt
-limited-in (Some bits) f z is range = below-in bits f z is range
+limited-in : (limit : Limit) (f : Field) (z : ℤ) → is_as_asked limit f ≡ true → InRange f z → IsLimited limit (cast_unsigned w64 z)
+limited-in Free f z is range = tt
+limited-in (Below bits) f z is range = below-in bits f z is range
+limited-in InWords f z is range = words-in f z is range
 
 -- so are all operands
 operands-in : (roles : List Role) (fs : List Field) (zs : List ℤ) → HasOperands fs zs → are_as_asked roles fs ≡ true → AreOperands roles zs
@@ -123,35 +151,35 @@ limited-step false (Some later) place z zs e first others =
     subst (λ (n : ℕ). cast_unsigned w64 (operand_at (z ∷ zs) n) < 32) is (others later refl)
 
 -- a number of five bits
-five-bits : (limit : Option ℕ) (n : ℕ) → limit ≡ Some 5 → IsLimited limit n → n < 32
-five-bits limit n e h = subst (λ (o : Option ℕ). IsLimited o n) e h
+five-bits : (limit : Limit) (n : ℕ) → limit ≡ Below 5 → IsLimited limit n → n < 32
+five-bits limit n e h = subst (λ (l : Limit). IsLimited l n) e h
 
 -- the operand of a role of five bits is the number of a register
-register-in : (test : Role → Bool) → ((role : Role) → test role ≡ true → limit_of role ≡ Some 5) → (roles : List Role) (zs : List ℤ) (place : ℕ) → AreOperands roles zs → place_in test roles ≡ Some place → cast_unsigned w64 (operand_at zs place) < 32
+register-in : (test : Role → Bool) → ((role : Role) → test role ≡ true → limit_of role ≡ Below 5) → (roles : List Role) (zs : List ℤ) (place : ℕ) → AreOperands roles zs → place_in test roles ≡ Some place → cast_unsigned w64 (operand_at zs place) < 32
 register-in test five [] zs place h e = cc
 register-in test five (role ∷ roles) [] place h e = absurd h
 register-in test five (role ∷ roles) (z ∷ zs) place h e =
     limited-step (test role) (place_in test roles) place z zs e (λ is. five-bits (limit_of role) (cast_unsigned w64 z) (five role is) h.0) (λ later is. register-in test five roles zs later h.1 is)
 
 -- the roles of registers have five bits
-written-five : (role : Role) → is_written role ≡ true → limit_of role ≡ Some 5
+written-five : (role : Role) → is_written role ≡ true → limit_of role ≡ Below 5
 written-five Written e = refl
 written-five Kept e = refl
 written-five role e = cc
 
-first-five : (role : Role) → is_first role ≡ true → limit_of role ≡ Some 5
+first-five : (role : Role) → is_first role ≡ true → limit_of role ≡ Below 5
 first-five First e = refl
 first-five role e = cc
 
-base-five : (role : Role) → is_base role ≡ true → limit_of role ≡ Some 5
+base-five : (role : Role) → is_base role ≡ true → limit_of role ≡ Below 5
 base-five Base e = refl
 base-five role e = cc
 
-second-five : (role : Role) → is_second role ≡ true → limit_of role ≡ Some 5
+second-five : (role : Role) → is_second role ≡ true → limit_of role ≡ Below 5
 second-five Second e = refl
 second-five role e = cc
 
-third-five : (role : Role) → is_third role ≡ true → limit_of role ≡ Some 5
+third-five : (role : Role) → is_third role ≡ true → limit_of role ≡ Below 5
 third-five Third e = refl
 third-five Kept e = refl
 third-five role e = cc
@@ -164,7 +192,7 @@ if-there (Some n) P h = h n refl
 -- so there are registers at the places of those roles
 registers-in : (insn : Insn) (roles : List Role) → AreOperands roles insn.ops.items → HasRegisters insn (places_in roles)
 registers-in insn roles h =
-    let at : (test : Role → Bool) → ((role : Role) → test role ≡ true → limit_of role ≡ Some 5) → IfSome (place_in test roles) (IsRegister insn) = λ test five. if-there (place_in test roles) (IsRegister insn) (λ n e. register-in test five roles insn.ops.items n h e) in
+    let at : (test : Role → Bool) → ((role : Role) → test role ≡ true → limit_of role ≡ Below 5) → IfSome (place_in test roles) (IsRegister insn) = λ test five. if-there (place_in test roles) (IsRegister insn) (λ n e. register-in test five roles insn.ops.items n h e) in
     record {
       at_written = at is_written written-five;
       at_first = at is_first first-five;
@@ -190,7 +218,10 @@ limited-from insn (role ∷ roles) (z ∷ zs) place same h = (
   limited-from insn roles zs (suc place) (λ i. same (suc i) ∙ ap (operand_of insn) (omega arith)) h.1,
 )
 
--- the operands of an arithmetic instruction of the table are as their roles ask
-pub limited : (insn : Insn) (row : AluRow) → IsInsn insn → slice_get operations insn.row ≡ Some (Alu row) → AreLimited insn 0 (input_roles row.inputs)
-limited insn row is at =
-    limited-from insn (input_roles row.inputs) insn.ops.items 0 (λ i. ap (operand_of insn) (omega arith)) (ready insn (Alu row) is at)
+limited-by : (insn : Insn) (roles : Option (List Role)) → IsReadyBy roles insn → HasLimitsBy insn roles
+limited-by insn None h = tt
+limited-by insn (Some roles) h = limited-from insn roles insn.ops.items 0 (λ i. ap (operand_of insn) (omega arith)) h
+
+-- the operands of an instruction of the table are as its operation asks
+pub limited : (insn : Insn) (operation : Operation) → IsInsn insn → slice_get operations insn.row ≡ Some operation → HasLimits insn operation
+limited insn operation is at = limited-by insn (roles_by operation) (ready insn operation is at)

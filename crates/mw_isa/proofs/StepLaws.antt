@@ -8,7 +8,7 @@ use Rattle.mw_isa.specs.declared.memory.MemOp.{MemOp}
 use Rattle.mw_isa.specs.declared.memory.MemWhat.{MemWhat}
 use Rattle.mw_isa.specs.declared.memory.MemWhat.TheVariants.{Load, Store, Conditional, Zero, Clean, Icbi}
 use Rattle.mw_isa.specs.declared.outcome.Outcome.{Outcome}
-use Rattle.mw_isa.specs.declared.outcome.Outcome.TheVariants.{Done, Long, Memory}
+use Rattle.mw_isa.specs.declared.outcome.Outcome.TheVariants.{Done, Long, Memory, Trap}
 use Rattle.mw_isa.specs.declared.pages.Stretches.{Stretches}
 use Rattle.mw_isa.specs.declared.slot.Slot.{Slot}
 use Rattle.mw_isa.specs.State.{State}
@@ -16,12 +16,12 @@ use Rattle.mw_isa.specs.Pages.{is_in_ram}
 use Rattle.mw_isa.specs.Fetch.{fetch_at, fetched, is_cut, word_of, suffix_of}
 use Rattle.mw_isa.specs.Slots.{get_slot}
 use Rattle.mw_isa.specs.Reads.{operands_of}
-use Rattle.mw_isa.specs.Execute.{exec_of}
+use Rattle.mw_isa.specs.Execute.{exec_of, is_built_row}
 use Rattle.mw_soc.specs.DeviceData.{DeviceData}
 use Rattle.mw_soc.specs.Devices.{cycle_of}
 use Rattle.mw_soc.proofs.Laws.{cycle-device_load, cycle-device_store}
 use Rattle.mw_isa.specs.Storage.{accessed, is_reserved, stores, devices_loaded, devices_stored}
-use Rattle.mw_isa.specs.Step.{IsKnown, Raised, Placed, UnderWay, Stepped, step, stepped, under_way, insn_in, insn_of, decoded_of, outcome_of, placed_of, written, state_behind, after_of, raises_of, end_raises, builds, builds_by, is_built, is_built_insn, is_built_outcome, earlier, words_raise}
+use Rattle.mw_isa.specs.Step.{IsKnown, Raised, Placed, UnderWay, Stepped, step, stepped, under_way, insn_in, insn_of, decoded_of, outcome_of, placed_of, written, state_behind, after_of, raises_of, end_raises, builds, builds_by, is_built_insn, is_built_outcome, earlier, words_raise}
 use Rattle.mw_isa.specs.Replay.{acted, retires, same_suffix}
 
 -- what an instruction carries that comes to an outcome
@@ -65,7 +65,7 @@ unfolding step
 step-known words insn outcome state k = ap (λ (it : UnderWay). stepped it state) (under_way-known words insn outcome state k)
 
 -- whether the next instruction is built, once it is known what it comes to
-pub builds-known : (words : Fetched) (insn : Insn) (outcome : Outcome) (state : State) → IsKnown words insn outcome state → builds state ≡ (is_built insn && is_built_outcome (Some outcome) (placed_of outcome state.regs.msr))
+pub builds-known : (words : Fetched) (insn : Insn) (outcome : Outcome) (state : State) → IsKnown words insn outcome state → builds state ≡ (is_built_row insn && is_built_outcome (Some outcome) (placed_of outcome state.regs.msr))
 unfolding builds
 builds-known words insn outcome state k = ap builds_by (under_way-known words insn outcome state k)
 
@@ -77,7 +77,7 @@ builds-none words state w none =
     ∙ ap (λ (i : Option Insn). is_built_insn i && is_built_outcome (under_way state).outcome (under_way state).placed) none
 
 -- nor is an instruction of a row or a form that isn't
-pub builds-not : (words : Fetched) (insn : Insn) (state : State) → fetched state ≡ Some words → insn_of words ≡ Some insn → is_built insn ≡ false → builds state ≡ false
+pub builds-not : (words : Fetched) (insn : Insn) (state : State) → fetched state ≡ Some words → insn_of words ≡ Some insn → is_built_row insn ≡ false → builds state ≡ false
 unfolding builds under_way
 builds-not words insn state w is unbuilt =
     ap (λ (o : Option Fetched). is_built_insn (option_and_then insn_of o) && is_built_outcome (under_way state).outcome (under_way state).placed) w
@@ -96,6 +96,7 @@ insn_of-whole words what whole is = ap₂ (λ (b : Bool) (w : Decoded). cond b N
 end_raises-none : (outcome : Outcome) (placed : Option Placed) (msr : ℕ) → end_raises outcome placed msr ≡ None
 end_raises-none (Done targets next) placed msr = refl
 end_raises-none (Long op) placed msr = refl
+end_raises-none (Trap vector cause) placed msr = refl
 end_raises-none (Memory op) None msr = refl
 end_raises-none (Memory op) (Some placed) msr = refl
 
@@ -168,6 +169,7 @@ accessed-cycle op at state =
 written-cycle : (outcome : Outcome) (placed : Option Placed) (state : State) → cycle_of (written outcome placed state).devices ≡ cycle_of state.devices
 written-cycle (Done targets next) placed state = refl
 written-cycle (Long op) placed state = refl
+written-cycle (Trap vector cause) placed state = refl
 written-cycle (Memory op) None state = refl
 written-cycle (Memory op) (Some (Err fault)) state = refl
 written-cycle (Memory op) (Some (Ok at)) state = accessed-cycle op at state

@@ -3,7 +3,7 @@ use Rattle.std.proofs.Common.{◌≡◌, ℕ, zero, suc, Bool, true, ◌&&◌, L
 use Rattle.std.proofs.lemmas.Bool.{and_parts}
 use Rattle.mw_isa.specs.declared.memory.MemWhat.{MemWhat}
 use Rattle.mw_isa.specs.declared.operation.Operation.{Operation}
-use Rattle.mw_isa.specs.declared.operation.Operation.TheVariants.{Alu, Product, Quotient, Branch, Storage, Hint, Later}
+use Rattle.mw_isa.specs.declared.operation.Operation.TheVariants.{Alu, Product, Quotient, Branch, Field, Fields, Pick, Trap, Storage, Hint, Later}
 use Rattle.mw_isa.specs.declared.operation.StorageRow.{StorageRow}
 use Rattle.mw_isa.specs.Operations.{operations, operation_lines}
 use Rattle.mw_isa.specs.declared.memory.MemOp.{MemOp}
@@ -17,6 +17,10 @@ sized_operation (Alu row) = true
 sized_operation (Product row) = true
 sized_operation (Quotient row) = true
 sized_operation (Branch row) = true
+sized_operation (Field row) = true
+sized_operation Fields = true
+sized_operation (Pick row) = true
+sized_operation (Trap row) = true
 sized_operation (Storage row) = is_sized_by row.what row.len
 sized_operation Hint = true
 sized_operation Later = true

@@ -8,7 +8,6 @@ use Rattle.mw_isa.specs.declared.operation.Carry.TheVariants.{NoCarry, Ca, Ov}
 use Rattle.mw_isa.specs.declared.operation.Ending.{Ending}
 use Rattle.mw_isa.specs.declared.operation.Ending.TheVariants.{Plain, Carries, Records, CarriesAndRecords, Overflows}
 use Rattle.mw_isa.specs.declared.slot.Slot.{Slot}
-use Rattle.mw_isa.specs.declared.slot.Slot.TheVariants.{CrField, Xer}
 
 -- the ending writes CA and CA32
 abbrev pub sets_carries : Ending → Bool
@@ -60,10 +59,6 @@ reads_xer row insn = takes_carry row.carry || (writes_xer row.ending insn || wri
 abbrev pub long_reads_xer : Insn → Bool
 long_reads_xer insn = insn.oe || insn.rc
 
--- XER, where it is asked
-abbrev pub xer_if : Bool → Option Slot
-xer_if asked = if asked then Some Xer else None
-
--- CR field 0, where it is asked
-abbrev pub field_if : Bool → Option Slot
-field_if asked = if asked then Some (CrField 0) else None
+-- a register, where it is asked
+abbrev pub slot_if : Bool → Slot → Option Slot
+slot_if asked slot = if asked then Some slot else None

@@ -1,6 +1,6 @@
 -- What an instruction comes to, from the registers that it reads (Book I, fixed-point, storage access and branch
 -- instructions).
-use Rattle.std.specs.Prelude.{ℕ, ◌+◌, ◌-◌, ◌%◌, ◌^◌, ◌==◌, Bool, true, false, if◌then◌else◌, List, [], ◌∷◌, ◌++◌, Option, Some, None, option_map, slice_get, option_and_then}
+use Rattle.std.specs.Prelude.{ℕ, zero, suc, ◌+◌, ◌-◌, ◌%◌, ◌^◌, ◌==◌, Bool, true, false, not, nat_le, if◌then◌else◌, List, [], ◌∷◌, ◌++◌, Option, Some, None, option_map, slice_get, option_and_then}
 use Rattle.std.specs.Option.{option_map_or}
 use Rattle.mw_alu.specs.declared.op.AluOut.{AluOut}
 use Rattle.mw_alu.specs.Alu.{alu_of}
@@ -11,7 +11,7 @@ use Rattle.mw_muldiv.specs.Division.{Division}
 use Rattle.mw_muldiv.specs.Multiplication.{Multiplication}
 use Rattle.mw_tables.specs.Matching.{has_prefix}
 use Rattle.mw_isa.specs.declared.operation.Operation.{Operation}
-use Rattle.mw_isa.specs.declared.operation.Operation.TheVariants.{Alu, Product, Quotient, Branch, Storage, Hint, Later}
+use Rattle.mw_isa.specs.declared.operation.Operation.TheVariants.{Alu, Product, Quotient, Branch, Field, Fields, Pick, Trap, Storage, Hint, Later}
 use Rattle.mw_isa.specs.declared.operation.AluRow.{AluRow}
 use Rattle.mw_isa.specs.declared.operation.Carry.{Carry}
 use Rattle.mw_isa.specs.declared.operation.Carry.TheVariants.{NoCarry, Ca, Ov}
@@ -24,14 +24,22 @@ use Rattle.mw_isa.specs.declared.operation.ProductRow.{ProductRow}
 use Rattle.mw_isa.specs.declared.operation.QuotientRow.{QuotientRow}
 use Rattle.mw_isa.specs.declared.operation.StorageRow.{StorageRow}
 use Rattle.mw_isa.specs.declared.operation.BranchRow.{BranchRow}
-use Rattle.mw_isa.specs.declared.operation.BranchRow.TheVariants.{B}
+use Rattle.mw_isa.specs.declared.operation.BranchRow.TheVariants.{B, Bc, Bclr, Bcctr, Bctar}
+use Rattle.mw_isa.specs.declared.operation.BitLogic.{BitLogic}
+use Rattle.mw_isa.specs.declared.operation.FieldRow.{FieldRow}
+use Rattle.mw_isa.specs.declared.operation.FieldRow.TheVariants.{CompareNumber, Compare, InRange, EqualsByte, FromXer, FromField, Logic}
+use Rattle.mw_isa.specs.declared.operation.PickRow.{PickRow}
+use Rattle.mw_isa.specs.declared.operation.PickRow.TheVariants.{Select, All, Chosen, Sign, Bit}
+use Rattle.mw_isa.specs.declared.operation.TrapRow.{TrapRow}
+use Rattle.mw_isa.specs.declared.operation.TrapRow.TheVariants.{TrapNumber, TrapRegister}
 use Rattle.mw_isa.specs.declared.outcome.Operands.{Operands}
 use Rattle.mw_isa.specs.declared.outcome.Outcome.{Outcome}
-use Rattle.mw_isa.specs.declared.outcome.Outcome.TheVariants.{Done, Long, Memory}
+use Rattle.mw_isa.specs.declared.outcome.Outcome.TheVariants.{Done, Long, Memory, Trap as Trapped}
 use Rattle.mw_isa.specs.declared.outcome.Target.{Target}
 use Rattle.mw_isa.specs.declared.place.Places.{Places}
 use Rattle.mw_isa.specs.declared.slot.Slot.{Slot}
-use Rattle.mw_isa.specs.declared.slot.Slot.TheVariants.{CrField, Xer}
+use Rattle.mw_isa.specs.declared.slot.Slot.TheVariants.{CrField, Xer, Lr, Ctr}
+use Rattle.mw_isa.specs.declared.vector.Vector.TheVariants.{Program}
 use Rattle.mw_isa.specs.declared.xer.XerBits.{XerBits}
 use Rattle.mw_isa.specs.Fetch.{behind}
 use Rattle.mw_isa.specs.Long.{added_by, dividend_by, divides_words, factor_in}
@@ -39,6 +47,9 @@ use Rattle.mw_isa.specs.Operations.{operations}
 use Rattle.mw_isa.specs.Places.{places_of, operand_of}
 use Rattle.mw_isa.specs.Reads.{register_at}
 use Rattle.mw_isa.specs.Slots.{known}
+use Rattle.mw_isa.specs.Special.{bi_of, bo_of}
+use Rattle.mw_isa.specs.Branches.{count_of, falls, is_taken, word_address}
+use Rattle.mw_isa.specs.Condition.{compare_field, cr_bit, cr_field, field_of_bit, flags_field, has_byte, is_chosen, is_in_range, is_trapping, logic_of, match_field, with_bit}
 use Rattle.mw_isa.specs.Endings.{writes_field, writes_xer}
 use Rattle.mw_isa.specs.Xer.{bits_after, result_field, xer_bits, xer_of}
 
@@ -188,10 +199,107 @@ wrapped_sum x y = (x + y) % 2 ^ 64
 abbrev pub target_of : ℕ → Insn → ℕ → ℕ
 target_of displacement insn cia = if insn.aa then displacement else wrapped_sum cia displacement
 
+-- where a branch goes if it is taken
+abbrev pub goal_of : BranchRow → Insn → Operands → ℕ → ℕ
+-- NIA ← EXTS(LI || 00), or CIA + EXTS(LI || 00); of bc by BD
+goal_of B insn o cia = target_of (b_of (places_of (Branch B)) insn o) insn cia
+goal_of Bc insn o cia = target_of (b_of (places_of (Branch Bc)) insn o) insn cia
+-- NIA ← LR, CTR or TAR, its low two bits 0; LR as it is before
+goal_of Bclr insn o cia = word_address o.lr
+goal_of Bcctr insn o cia = word_address o.ctr
+goal_of Bctar insn o cia = word_address o.tar
+
+-- CTR, where it falls
+abbrev pub count_target : ℕ → ℕ → List Target
+count_target bo ctr = if falls bo then known Ctr (count_of bo ctr) ∷ [] else []
+
+-- LR with LK, whether the branch is taken or not: the address behind it
+abbrev pub link_target : Bool → ℕ → List Target
+link_target lk cia = if lk then known Lr (behind cia) ∷ [] else []
+
+-- a branch on BO and a bit of the condition register
+abbrev pub branch_by : ℕ → Bool → ℕ → Bool → ℕ → ℕ → Outcome
+branch_by bo bit goal lk ctr cia =
+    Done (record { items = count_target bo ctr ++ link_target lk cia }) (if is_taken bo (count_of bo ctr) bit then goal else behind cia)
+
 -- the rows that branch
 abbrev pub branch_of : BranchRow → Insn → Operands → ℕ → Outcome
--- NIA ← EXTS(LI || 00), or CIA + EXTS(LI || 00)
-branch_of B insn o cia = branch_to (target_of (b_of (places_of (Branch B)) insn o) insn cia)
+branch_of row insn o cia = branch_by (bo_of row insn) (cr_bit o.cr (bi_of row insn)) (goal_of row insn o cia) insn.lk o.ctr cia
+
+-- the bit BT of its field, made of the bits BA and BB
+abbrev pub logic_field : BitLogic → ℕ → ℕ → ℕ → ℕ → ℕ
+logic_field logic cr bt ba bb = with_bit (cr_field cr (field_of_bit bt)) (bt % 4) (logic_of logic (cr_bit cr ba) (cr_bit cr bb))
+
+-- whether whole registers are compared: L
+abbrev pub is_long : Insn → Bool
+is_long insn = operand_of insn 1 == 1
+
+-- what a row gives the field that it sets
+abbrev pub digit_of : FieldRow → Insn → Operands → ℕ
+digit_of (CompareNumber signed) insn o = compare_field signed (is_long insn) o.a (b_of (places_of (Field (CompareNumber signed))) insn o) (xer_bits o.xer).so
+digit_of (Compare signed) insn o = compare_field signed (is_long insn) o.a o.b (xer_bits o.xer).so
+digit_of InRange insn o = match_field (is_in_range (is_long insn) o.a o.b)
+digit_of EqualsByte insn o = match_field (has_byte o.a o.b 8)
+digit_of FromXer insn o = flags_field (xer_bits o.xer)
+digit_of FromField insn o = cr_field o.cr (operand_of insn 1)
+digit_of (Logic logic) insn o = logic_field logic o.cr (operand_of insn 0) (operand_of insn 1) (operand_of insn 2)
+
+-- the field that a row sets: BF, or that of BT
+abbrev pub field_written : FieldRow → Insn → ℕ
+field_written (CompareNumber signed) insn = operand_of insn 0
+field_written (Compare signed) insn = operand_of insn 0
+field_written InRange insn = operand_of insn 0
+field_written EqualsByte insn = operand_of insn 0
+field_written FromXer insn = operand_of insn 0
+field_written FromField insn = operand_of insn 0
+field_written (Logic logic) insn = field_of_bit (operand_of insn 0)
+
+-- the rows that set a field of the condition register
+abbrev pub field_of : FieldRow → Insn → Operands → ℕ → Outcome
+field_of row insn o cia = Done (record { items = known (CrField (field_written row insn)) (digit_of row insn o) ∷ [] }) (behind_insn insn cia)
+
+-- of the first fields of the condition register those that a mask chooses, lowest number first, from a low word
+abbrev pub field_targets : ℕ → ℕ → ℕ → List Target
+field_targets mask value zero = []
+field_targets mask value (suc n) = field_targets mask value n ++ (if is_chosen mask n then known (CrField n) (cr_field value n) ∷ [] else [])
+
+-- the rows that set the fields of FXM
+abbrev pub fields_of : Insn → Operands → ℕ → Outcome
+fields_of insn o cia = Done (record { items = field_targets (operand_of insn 0) o.a 8 }) (behind_insn insn cia)
+
+-- a number where a bit is 1, or where it is 0, and else 0
+abbrev pub number_if : Bool → Bool → Bool → ℕ
+number_if negative reversed bit = if (if reversed then not bit else bit) then (if negative then 2 ^ 64 - 1 else 1) else 0
+
+-- the sign that a field tells: LT, GT or neither
+abbrev pub sign_of : ℕ → ℕ
+sign_of digit = if nat_le 8 digit then 2 ^ 64 - 1 else if nat_le 4 digit then 1 else 0
+
+-- what a row gives the register that it sets
+abbrev pub picked_of : PickRow → Insn → Operands → ℕ → ℕ
+picked_of Select insn o cia = if cr_bit o.cr (operand_of insn 3) then a_of (places_of (Pick Select)) insn o cia else o.b
+-- all fields, or those of FXM: the operands have no others
+picked_of All insn o cia = o.cr
+picked_of Chosen insn o cia = o.cr
+picked_of Sign insn o cia = sign_of (cr_field o.cr (operand_of insn 1))
+picked_of (Bit negative reversed) insn o cia = number_if negative reversed (cr_bit o.cr (operand_of insn 1))
+
+-- the rows that set a register by the condition register
+abbrev pub pick_of : PickRow → Insn → Operands → ℕ → Outcome
+pick_of row insn o cia = Done (record { items = result_at (register_at insn (places_of (Pick row)).written) (picked_of row insn o cia) }) (behind_insn insn cia)
+
+-- the trap condition holds
+abbrev pub traps : TrapRow → Insn → Operands → Bool
+traps (TrapNumber long) insn o = is_trapping (operand_of insn 0) long o.a (b_of (places_of (Trap (TrapNumber long))) insn o)
+traps (TrapRegister long) insn o = is_trapping (operand_of insn 0) long o.a o.b
+
+-- the bit of SRR1 that tells a trap, counted from the left of 64
+abbrev pub trap_cause : ℕ
+trap_cause = 2 ^ (63 - 46)
+
+-- the rows that trap
+abbrev pub trap_of : TrapRow → Insn → Operands → ℕ → Outcome
+trap_of row insn o cia = if traps row insn o then Trapped Program trap_cause else branch_to (behind_insn insn cia)
 
 -- EA ← (RA|0) + EXTS(D), or (RA|0) + (RB), or CIA + EXTS(D)
 abbrev pub effective_of : Places → Insn → Operands → ℕ → ℕ
@@ -218,6 +326,10 @@ effect_of (Alu row) insn o cia = Some (arithmetic_of row insn o cia)
 effect_of (Product row) insn o cia = Some (Long (product_by row insn o))
 effect_of (Quotient row) insn o cia = Some (Long (quotient_by row insn o))
 effect_of (Branch row) insn o cia = Some (branch_of row insn o cia)
+effect_of (Field row) insn o cia = Some (field_of row insn o cia)
+effect_of Fields insn o cia = Some (fields_of insn o cia)
+effect_of (Pick row) insn o cia = Some (pick_of row insn o cia)
+effect_of (Trap row) insn o cia = Some (trap_of row insn o cia)
 effect_of (Storage row) insn o cia = Some (storage_of row insn o cia)
 effect_of Hint insn o cia = Some (branch_to (behind_insn insn cia))
 effect_of Later insn o cia = None

@@ -10,6 +10,9 @@ pub mod Slots
 pub mod Places
 pub mod Endings
 pub mod Xer
+pub mod Condition
+pub mod Branches
+pub mod Special
 pub mod Reads
 pub mod Long
 pub mod Execute

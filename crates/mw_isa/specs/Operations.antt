@@ -9,7 +9,7 @@ use Rattle.mw_muldiv.specs.declared.numbers.MulKind.TheVariants.{Signed, Unsigne
 use Rattle.mw_isa.specs.declared.memory.MemWhat.{MemWhat}
 use Rattle.mw_isa.specs.declared.memory.MemWhat.TheVariants.{Load, Store, Conditional, Zero, Clean, Icbi}
 use Rattle.mw_isa.specs.declared.operation.Operation.{Operation}
-use Rattle.mw_isa.specs.declared.operation.Operation.TheVariants.{Alu, Product, Quotient, Branch, Storage, Hint, Later}
+use Rattle.mw_isa.specs.declared.operation.Operation.TheVariants.{Alu, Product, Quotient, Branch, Field, Fields, Pick, Trap, Storage, Hint, Later}
 use Rattle.mw_isa.specs.declared.operation.Inputs.{Inputs}
 use Rattle.mw_isa.specs.declared.operation.Inputs.TheVariants.{BaseNumber, SourceNumber, Two, TwoKind, Three, One, Relative, Next, WordShift, Shift, WordMask, WordMaskBy, WordInsert, Left, Right, Middle, Insert, LeftBy, RightBy}
 use Rattle.mw_isa.specs.declared.operation.Carry.{Carry}
@@ -20,7 +20,11 @@ use Rattle.mw_isa.specs.declared.operation.Addend.{Addend}
 use Rattle.mw_isa.specs.declared.operation.Addend.TheVariants.{NoAddend, PlainAddend, SignedAddend}
 use Rattle.mw_isa.specs.declared.operation.ProductRow.{ProductRow}
 use Rattle.mw_isa.specs.declared.operation.QuotientRow.{QuotientRow}
-use Rattle.mw_isa.specs.declared.operation.BranchRow.TheVariants.{B}
+use Rattle.mw_isa.specs.declared.operation.BranchRow.TheVariants.{B, Bc, Bclr, Bcctr, Bctar}
+use Rattle.mw_isa.specs.declared.operation.FieldRow.TheVariants.{CompareNumber, Compare, InRange, EqualsByte, FromXer, FromField, Logic}
+use Rattle.mw_isa.specs.declared.operation.BitLogic.TheVariants.{Crnor, Crandc, Crxor, Crnand, Crand, Creqv, Crorc, Cror}
+use Rattle.mw_isa.specs.declared.operation.PickRow.TheVariants.{Select, All, Chosen, Sign, Bit}
+use Rattle.mw_isa.specs.declared.operation.TrapRow.TheVariants.{TrapNumber, TrapRegister}
 use Rattle.mw_isa.specs.declared.operation.Address.TheVariants.{Displaced, Indexed, Block, Prefixed}
 use Rattle.mw_isa.specs.declared.operation.StorageRow.{StorageRow}
 
@@ -121,10 +125,10 @@ operation_lines =
     ∷ on (codes "addic.") (alu Addic SourceNumber NoCarry CarriesAndRecords)
     ∷ on (codes "subfic") (alu Subfic SourceNumber NoCarry Carries)
     ∷ on (codes "mulli") (Product (product Signed SourceNumber))
-    ∷ on (codes "cmpi") Later
-    ∷ on (codes "cmpli") Later
-    ∷ on (codes "tdi") Later
-    ∷ on (codes "twi") Later
+    ∷ on (codes "cmpi") (Field (CompareNumber true))
+    ∷ on (codes "cmpli") (Field (CompareNumber false))
+    ∷ on (codes "tdi") (Trap (TrapNumber true))
+    ∷ on (codes "twi") (Trap (TrapNumber false))
     ∷ on (codes "ori") (alu Ori SourceNumber NoCarry Plain)
     ∷ on (codes "oris") (alu Oris SourceNumber NoCarry Plain)
     ∷ on (codes "xori") (alu Xori SourceNumber NoCarry Plain)
@@ -133,19 +137,19 @@ operation_lines =
     ∷ on (codes "andis.") (alu Andis SourceNumber NoCarry Records)
     ∷ on (codes "addpcis") (alu Addpcis Next NoCarry Plain)
     ∷ on (codes "b") (Branch B)
-    ∷ on (codes "bc") Later
-    ∷ on (codes "bclr") Later
-    ∷ on (codes "bcctr") Later
-    ∷ on (codes "bctar") Later
-    ∷ on (codes "crnor") Later
-    ∷ on (codes "crandc") Later
-    ∷ on (codes "crxor") Later
-    ∷ on (codes "crnand") Later
-    ∷ on (codes "crand") Later
-    ∷ on (codes "creqv") Later
-    ∷ on (codes "crorc") Later
-    ∷ on (codes "cror") Later
-    ∷ on (codes "mcrf") Later
+    ∷ on (codes "bc") (Branch Bc)
+    ∷ on (codes "bclr") (Branch Bclr)
+    ∷ on (codes "bcctr") (Branch Bcctr)
+    ∷ on (codes "bctar") (Branch Bctar)
+    ∷ on (codes "crnor") (Field (Logic Crnor))
+    ∷ on (codes "crandc") (Field (Logic Crandc))
+    ∷ on (codes "crxor") (Field (Logic Crxor))
+    ∷ on (codes "crnand") (Field (Logic Crnand))
+    ∷ on (codes "crand") (Field (Logic Crand))
+    ∷ on (codes "creqv") (Field (Logic Creqv))
+    ∷ on (codes "crorc") (Field (Logic Crorc))
+    ∷ on (codes "cror") (Field (Logic Cror))
+    ∷ on (codes "mcrf") (Field FromField)
     ∷ on (codes "rlwinm") (alu Rlwinm WordMask NoCarry Plain)
     ∷ on (codes "rlwnm") (alu Rlwnm WordMaskBy NoCarry Plain)
     ∷ on (codes "rlwimi") (alu Rlwimi WordInsert NoCarry Plain)
@@ -227,23 +231,23 @@ operation_lines =
     ∷ on (codes "cfuged") (alu Cfuged Two NoCarry Plain)
     ∷ on (codes "bpermd") (alu Bpermd Two NoCarry Plain)
     ∷ on (codes "cmpb") (alu Cmpb Two NoCarry Plain)
-    ∷ on (codes "cmp") Later
-    ∷ on (codes "cmpl") Later
-    ∷ on (codes "tw") Later
-    ∷ on (codes "td") Later
-    ∷ on (codes "isel") Later
-    ∷ on (codes "mfcr") Later
-    ∷ on (codes "mfocrf") Later
-    ∷ on (codes "mtcrf") Later
-    ∷ on (codes "mtocrf") Later
-    ∷ on (codes "setb") Later
-    ∷ on (codes "setbc") Later
-    ∷ on (codes "setbcr") Later
-    ∷ on (codes "setnbc") Later
-    ∷ on (codes "setnbcr") Later
-    ∷ on (codes "cmprb") Later
-    ∷ on (codes "cmpeqb") Later
-    ∷ on (codes "mcrxrx") Later
+    ∷ on (codes "cmp") (Field (Compare true))
+    ∷ on (codes "cmpl") (Field (Compare false))
+    ∷ on (codes "tw") (Trap (TrapRegister false))
+    ∷ on (codes "td") (Trap (TrapRegister true))
+    ∷ on (codes "isel") (Pick Select)
+    ∷ on (codes "mfcr") (Pick All)
+    ∷ on (codes "mfocrf") (Pick Chosen)
+    ∷ on (codes "mtcrf") Fields
+    ∷ on (codes "mtocrf") Fields
+    ∷ on (codes "setb") (Pick Sign)
+    ∷ on (codes "setbc") (Pick (Bit false false))
+    ∷ on (codes "setbcr") (Pick (Bit false true))
+    ∷ on (codes "setnbc") (Pick (Bit true false))
+    ∷ on (codes "setnbcr") (Pick (Bit true true))
+    ∷ on (codes "cmprb") (Field InRange)
+    ∷ on (codes "cmpeqb") (Field EqualsByte)
+    ∷ on (codes "mcrxrx") (Field FromXer)
     ∷ on (codes "lwz") (Storage (load 4))
     ∷ on (codes "lwzu") (Storage (updating (load 4)))
     ∷ on (codes "lbz") (Storage (load 1))

@@ -1,16 +1,22 @@
 -- What each operand of an instruction is to it, told once for each operand list; where it stands follows.
-use Rattle.std.specs.Prelude.{ℕ, ⊤, ◌<◌, ◌^◌, Bool, true, false, if◌then◌else◌, List, [], ◌∷◌, Option, Some, None, option_map, IfSome, suc, ℤ}
+use Rattle.std.specs.Prelude.{ℕ, ⊤, ◌≡◌, ◌<◌, ◌%◌, ◌^◌, Bool, true, false, if◌then◌else◌, List, [], ◌∷◌, Option, Some, None, option_map, IfSome, suc, ℤ}
 use Rattle.std.specs.Int.{w64, cast_unsigned}
 use Rattle.mw_decode.specs.declared.insn.Insn.{Insn}
 use Rattle.mw_tables.specs.Layouts.{operand_at}
 use Rattle.mw_isa.specs.declared.memory.MemWhat.{MemWhat}
 use Rattle.mw_isa.specs.declared.memory.MemWhat.TheVariants.{Load, Store, Conditional}
 use Rattle.mw_isa.specs.declared.operation.Operation.{Operation}
-use Rattle.mw_isa.specs.declared.operation.Operation.TheVariants.{Alu, Product, Quotient, Branch, Storage, Hint, Later}
+use Rattle.mw_isa.specs.declared.operation.Operation.TheVariants.{Alu, Product, Quotient, Branch, Field, Fields, Pick, Trap, Storage, Hint, Later}
 use Rattle.mw_isa.specs.declared.operation.Address.{Address}
 use Rattle.mw_isa.specs.declared.operation.Address.TheVariants.{Displaced, Indexed, Block, Prefixed}
 use Rattle.mw_isa.specs.declared.operation.BranchRow.{BranchRow}
-use Rattle.mw_isa.specs.declared.operation.BranchRow.TheVariants.{B}
+use Rattle.mw_isa.specs.declared.operation.BranchRow.TheVariants.{B, Bc, Bclr, Bcctr, Bctar}
+use Rattle.mw_isa.specs.declared.operation.FieldRow.{FieldRow}
+use Rattle.mw_isa.specs.declared.operation.FieldRow.TheVariants.{CompareNumber, Compare, InRange, EqualsByte, FromXer, FromField, Logic}
+use Rattle.mw_isa.specs.declared.operation.PickRow.{PickRow}
+use Rattle.mw_isa.specs.declared.operation.PickRow.TheVariants.{Select, All, Chosen, Sign, Bit}
+use Rattle.mw_isa.specs.declared.operation.TrapRow.{TrapRow}
+use Rattle.mw_isa.specs.declared.operation.TrapRow.TheVariants.{TrapNumber, TrapRegister}
 use Rattle.mw_isa.specs.declared.operation.Inputs.{Inputs}
 use Rattle.mw_isa.specs.declared.operation.Inputs.TheVariants.{BaseNumber, SourceNumber, Two, TwoKind, Three, One, Relative, Next, WordShift, Shift, WordMask, WordMaskBy, WordInsert, Left, Right, Middle, Insert, LeftBy, RightBy}
 use Rattle.mw_isa.specs.declared.place.Places.{Places}
@@ -18,7 +24,8 @@ use Rattle.mw_isa.specs.declared.place.Places.{Places}
 -- what an operand is: a register that is written; one that is read as a, also where register 0 stands for 0 (RA|0), as b
 -- or as c; one that is read as c and written; the number that stands as b, also one of so many bits, which counts the
 -- places of a rotation; the number of so many bits that stands as c; the first and the last bit of a mask, as numbers of
--- so many bits; R, which is 1 where the instruction's own address stands as a; or nothing
+-- so many bits; R, which is 1 where the instruction's own address stands as a; a displacement that is a multiple of 4,
+-- which stands as b; a number of so many bits that says what is done (BO, BI, BF, FXM and their kin); or nothing
 pub data Role : Type 0 where
   Written : Role
   First : Role
@@ -32,6 +39,8 @@ pub data Role : Type 0 where
   Start : ℕ → Role
   End : ℕ → Role
   Own : Role
+  Distance : Role
+  Code : ℕ → Role
   Unused : Role
 
 -- the operands of an arithmetic row, also of a product or a quotient
@@ -94,7 +103,53 @@ access_roles Prefixed what = datum_role what ∷ Number ∷ Base ∷ Own ∷ []
 -- the operands of a branch
 abbrev pub branch_roles : BranchRow → List Role
 -- target
-branch_roles B = Number ∷ []
+branch_roles B = Distance ∷ []
+-- BO,BI,target
+branch_roles Bc = Code 5 ∷ Code 5 ∷ Distance ∷ []
+-- BO,BI,BH
+branch_roles Bclr = Code 5 ∷ Code 5 ∷ Unused ∷ []
+branch_roles Bcctr = Code 5 ∷ Code 5 ∷ Unused ∷ []
+branch_roles Bctar = Code 5 ∷ Code 5 ∷ Unused ∷ []
+
+-- the operands of a row that sets a field of the condition register
+abbrev pub field_roles : FieldRow → List Role
+-- BF,L,RA,SI or BF,L,RA,UI
+field_roles (CompareNumber signed) = Code 3 ∷ Code 1 ∷ First ∷ Number ∷ []
+-- BF,L,RA,RB
+field_roles (Compare signed) = Code 3 ∷ Code 1 ∷ First ∷ Second ∷ []
+field_roles InRange = Code 3 ∷ Code 1 ∷ First ∷ Second ∷ []
+-- BF,RA,RB
+field_roles EqualsByte = Code 3 ∷ First ∷ Second ∷ []
+-- BF
+field_roles FromXer = Code 3 ∷ []
+-- BF,BFA
+field_roles FromField = Code 3 ∷ Code 3 ∷ []
+-- BT,BA,BB
+field_roles (Logic logic) = Code 5 ∷ Code 5 ∷ Code 5 ∷ []
+
+-- FXM,RS
+abbrev pub fields_roles : List Role
+fields_roles = Code 8 ∷ First ∷ []
+
+-- the operands of a row that sets a register by the condition register
+abbrev pub pick_roles : PickRow → List Role
+-- RT,RA,RB,BC
+pick_roles Select = Written ∷ Base ∷ Second ∷ Code 5 ∷ []
+-- RT
+pick_roles All = Written ∷ []
+-- RT,FXM
+pick_roles Chosen = Written ∷ Code 8 ∷ []
+-- RT,BFA
+pick_roles Sign = Written ∷ Code 3 ∷ []
+-- RT,BI
+pick_roles (Bit negative reversed) = Written ∷ Code 5 ∷ []
+
+-- the operands of a trap
+abbrev pub trap_roles : TrapRow → List Role
+-- TO,RA,SI
+trap_roles (TrapNumber long) = Code 5 ∷ First ∷ Number ∷ []
+-- TO,RA,RB
+trap_roles (TrapRegister long) = Code 5 ∷ First ∷ Second ∷ []
 
 -- the operands of an operation, where it does something with them
 abbrev pub roles_by : Operation → Option (List Role)
@@ -102,6 +157,10 @@ roles_by (Alu row) = Some (input_roles row.inputs)
 roles_by (Product row) = Some (input_roles row.inputs)
 roles_by (Quotient row) = Some (input_roles Two)
 roles_by (Branch row) = Some (branch_roles row)
+roles_by (Field row) = Some (field_roles row)
+roles_by Fields = Some fields_roles
+roles_by (Pick row) = Some (pick_roles row)
+roles_by (Trap row) = Some (trap_roles row)
 roles_by (Storage row) = Some (access_roles row.address row.what)
 roles_by Hint = None
 roles_by Later = None
@@ -132,6 +191,7 @@ is_third role = false
 abbrev pub is_number : Role → Bool
 is_number Number = true
 is_number (Count bits) = true
+is_number Distance = true
 is_number role = false
 
 abbrev pub is_amount : Role → Bool
@@ -193,26 +253,35 @@ places_of operation = places_by (roles_by operation)
 abbrev pub operand_of : Insn → ℕ → ℕ
 operand_of insn place = cast_unsigned w64 (operand_at insn.ops.items place)
 
--- how many bits an operand of a role has, where that is asked: a register's five, R's one, those of a count or a place
-abbrev pub limit_of : Role → Option ℕ
-limit_of Written = Some 5
-limit_of First = Some 5
-limit_of Base = Some 5
-limit_of Second = Some 5
-limit_of Third = Some 5
-limit_of Kept = Some 5
-limit_of Number = None
-limit_of (Count bits) = Some bits
-limit_of (Amount bits) = Some bits
-limit_of (Start bits) = Some bits
-limit_of (End bits) = Some bits
-limit_of Own = Some 1
-limit_of Unused = None
+-- what an operand of a role is asked to be: anything, a number of so many bits, or a multiple of 4
+pub data Limit : Type 0 where
+  Free : Limit
+  Below : ℕ → Limit
+  InWords : Limit
 
--- a number has no more than so many bits
-abbrev pub IsLimited : Option ℕ → ℕ → Type 0
-IsLimited None n = ⊤
-IsLimited (Some bits) n = n < 2 ^ bits
+-- a register's number has five bits, R one
+abbrev pub limit_of : Role → Limit
+limit_of Written = Below 5
+limit_of First = Below 5
+limit_of Base = Below 5
+limit_of Second = Below 5
+limit_of Third = Below 5
+limit_of Kept = Below 5
+limit_of Number = Free
+limit_of (Count bits) = Below bits
+limit_of (Amount bits) = Below bits
+limit_of (Start bits) = Below bits
+limit_of (End bits) = Below bits
+limit_of Own = Below 1
+limit_of Distance = InWords
+limit_of (Code bits) = Below bits
+limit_of Unused = Free
+
+-- a number is as it is asked to be
+abbrev pub IsLimited : Limit → ℕ → Type 0
+IsLimited Free n = ⊤
+IsLimited (Below bits) n = n < 2 ^ bits
+IsLimited InWords n = n % 4 ≡ 0
 
 -- there are as many operands as roles, and each is as its role asks
 abbrev pub AreOperands : List Role → List ℤ → Type 0
@@ -245,3 +314,11 @@ pub record HasRegisters (insn : Insn) (places : Places) : Type 0 where
 abbrev pub AreLimited : Insn → ℕ → List Role → Type 0
 AreLimited insn place [] = ⊤
 AreLimited insn place (role ∷ roles) = IsLimited (limit_of role) (operand_of insn place) × AreLimited insn (suc place) roles
+
+-- the operands of an instruction are as its operation asks
+abbrev pub HasLimitsBy : Insn → Option (List Role) → Type 0
+HasLimitsBy insn None = ⊤
+HasLimitsBy insn (Some roles) = AreLimited insn 0 roles
+
+abbrev pub HasLimits : Insn → Operation → Type 0
+HasLimits insn operation = HasLimitsBy insn (roles_by operation)

@@ -90,6 +90,11 @@ abbrev pub bits_of : List Slot → ℕ
 bits_of [] = 0
 bits_of (slot ∷ slots) = bits_with (Some slot) (bits_of slots)
 
+-- bits with those of the registers of a list
+abbrev pub bits_upon : List Slot → ℕ → ℕ
+bits_upon [] bits = bits
+bits_upon (slot ∷ slots) bits = bits_with (Some slot) (bits_upon slots bits)
+
 -- a register isn't in a list
 abbrev pub IsAbsent : Slot → List Slot → Type 0
 IsAbsent slot [] = ⊤

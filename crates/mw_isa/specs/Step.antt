@@ -1,6 +1,6 @@
 -- One instruction, carried out on a state whose devices stand at its cycle (Books I to III): what is known of it before
 -- anything changes, the chain of what raises an interrupt, of which the first ends it, and what it leaves.
-use Rattle.std.specs.Prelude.{ℕ, ⊤, ◌≡◌, Bool, true, false, not, ◌&&◌, if◌then◌else◌, List, [], ◌∷◌, Option, Some, None, option_and_then, Result, Ok, Err}
+use Rattle.std.specs.Prelude.{ℕ, ⊤, ◌≡◌, Bool, true, false, ◌&&◌, if◌then◌else◌, List, [], ◌∷◌, Option, Some, None, option_and_then, Result, Ok, Err}
 use Rattle.mw_decode.specs.declared.insn.Insn.{Insn}
 use Rattle.mw_decode.specs.declared.insn.Decoded.{Decoded}
 use Rattle.mw_decode.specs.declared.insn.Decoded.TheVariants.{Insn as Is, Unavailable, Alignment, Illegal}
@@ -12,7 +12,7 @@ use Rattle.mw_isa.specs.declared.fetched.Fetched.{Fetched}
 use Rattle.mw_isa.specs.declared.long.LongOp.{LongOp}
 use Rattle.mw_isa.specs.declared.memory.MemOp.{MemOp}
 use Rattle.mw_isa.specs.declared.outcome.Outcome.{Outcome}
-use Rattle.mw_isa.specs.declared.outcome.Outcome.TheVariants.{Done, Long, Memory}
+use Rattle.mw_isa.specs.declared.outcome.Outcome.TheVariants.{Done, Long, Memory, Trap}
 use Rattle.mw_isa.specs.declared.pages.PageFault.{PageFault}
 use Rattle.mw_isa.specs.declared.pages.StorageFault.{StorageFault}
 use Rattle.mw_isa.specs.declared.pages.Stretches.{Stretches}
@@ -104,6 +104,7 @@ abbrev pub placed_by : Option Raised → Outcome → Option Placed
 placed_by (Some raised) outcome = None
 placed_by None (Done targets next) = None
 placed_by None (Long op) = None
+placed_by None (Trap vector cause) = None
 placed_by None (Memory op) = Some (stretches_of real_at (pages_of op))
 
 -- where the access of an outcome under MSR stands
@@ -134,6 +135,7 @@ earlier None later = later
 abbrev pub place_raises : Outcome → Option Placed → Option Raised
 place_raises (Done targets next) placed = None
 place_raises (Long op) placed = None
+place_raises (Trap vector cause) placed = None
 place_raises (Memory op) placed = option_and_then (access_raises op) placed
 
 -- the interrupt that an outcome raises, by itself or by its access
@@ -146,21 +148,18 @@ abbrev pub raises_of : UnderWay → (Slot → ℕ) → ℕ → Option Raised
 raises_of it view msr =
     earlier (fetch_raises it.real) (earlier (option_and_then (λ words. words_raise words view) it.words) (option_and_then (λ outcome. end_raises outcome it.placed msr) it.outcome))
 
--- an instruction of a row and a form that are built: it hasn't LK
-abbrev pub is_built : Insn → Bool
-is_built insn = is_built_row insn && not insn.lk
-
--- the words were fetched, aren't cut off, and are an instruction of a row and a form that are built
+-- the words were fetched, aren't cut off, and are an instruction of a row that is built
 abbrev pub is_built_insn : Option Insn → Bool
 is_built_insn None = false
-is_built_insn (Some insn) = is_built insn
+is_built_insn (Some insn) = is_built_row insn
 
--- an outcome that is built: its pages have no fault, and its access raises no interrupt and reaches no device that isn't
--- built
+-- an outcome that is built: it is no trap; its pages have no fault, and its access raises no interrupt and reaches no
+-- device that isn't built
 abbrev pub is_built_outcome : Option Outcome → Option Placed → Bool
 is_built_outcome None placed = false
 is_built_outcome (Some (Done targets next)) placed = true
 is_built_outcome (Some (Long op)) placed = true
+is_built_outcome (Some (Trap vector cause)) placed = false
 is_built_outcome (Some (Memory op)) None = false
 is_built_outcome (Some (Memory op)) (Some (Err fault)) = false
 is_built_outcome (Some (Memory op)) (Some (Ok at)) = is_built_access op at
@@ -181,6 +180,7 @@ regs_after op regs = set_targets (finished op (result_of op) regs.xer) regs
 abbrev pub written : Outcome → Option Placed → State → State
 written (Done targets next) placed state = record state { regs = set_targets targets.items state.regs }
 written (Long op) placed state = record state { regs = regs_after op state.regs }
+written (Trap vector cause) placed state = state
 written (Memory op) None state = state
 written (Memory op) (Some (Err fault)) state = state
 written (Memory op) (Some (Ok at)) state = accessed op at state
@@ -189,6 +189,7 @@ written (Memory op) (Some (Ok at)) state = accessed op at state
 abbrev pub next_of : Insn → Outcome → Regs → ℕ → ℕ
 next_of insn (Done targets next) regs at = next
 next_of insn (Long op) regs at = behind_insn insn at
+next_of insn (Trap vector cause) regs at = at
 next_of insn (Memory op) regs at = behind_insn insn at
 
 -- a state at an instruction
@@ -212,6 +213,7 @@ abbrev pub data_of : Option Outcome → Option Placed → List Touch
 data_of (Some (Memory op)) (Some placed) = touches_of (pages_of op)
 data_of (Some (Memory op)) None = []
 data_of (Some (Long op)) placed = []
+data_of (Some (Trap vector cause)) placed = []
 data_of (Some (Done targets next)) placed = []
 data_of None placed = []
 
@@ -221,6 +223,7 @@ deed_at (Some (Memory op)) (Some (Ok at)) state = deed_by op.what at state
 deed_at (Some (Memory op)) (Some (Err fault)) state = Plain
 deed_at (Some (Memory op)) None state = Plain
 deed_at (Some (Long op)) placed state = Plain
+deed_at (Some (Trap vector cause)) placed state = Plain
 deed_at (Some (Done targets next)) placed state = Plain
 deed_at None placed state = Plain
 
@@ -259,12 +262,14 @@ OnPlaced P (Memory op) (Some (Ok at)) = P op at
 OnPlaced P (Memory op) (Some (Err fault)) = ⊤
 OnPlaced P (Memory op) None = ⊤
 OnPlaced P (Long op) placed = ⊤
+OnPlaced P (Trap vector cause) placed = ⊤
 OnPlaced P (Done targets next) placed = ⊤
 
 -- a fact on the long operation, where an outcome is one
 abbrev pub OnLong : (LongOp → Type 0) → Outcome → Type 0
 OnLong P (Done targets next) = Unit {0}
 OnLong P (Long op) = P op
+OnLong P (Trap vector cause) = Unit {0}
 OnLong P (Memory op) = Unit {0}
 
 -- what is known of an outcome that can be carried out: no tick of a unit is done; an access has one of its lengths, its

@@ -1,5 +1,5 @@
 ghost use Rattle.std.specs.Prelude.{◌≡◌, IfSome};
-ghost use Rattle.mw_isa.specs.Endings.{field_if, long_reads_xer, reads_xer, sets_carries, sets_field, sets_overflows, takes_carry, writes_field, writes_overflows, writes_xer, xer_if};
+ghost use Rattle.mw_isa.specs.Endings.{long_reads_xer, reads_xer, sets_carries, sets_field, sets_overflows, slot_if, takes_carry, writes_field, writes_overflows, writes_xer};
 ghost use Rattle.mw_isa.specs.Slots.{IsSlot};
 
 use crate::operation::{AluRow, Carry, Ending};
@@ -91,18 +91,11 @@ pub fn long_reads_xer(insn: &Insn) -> bool
     insn.oe || insn.rc
 }
 
-/// XER, where it is asked.
-pub fn xer_if(asked: bool) -> Option<Slot>
-    ensures value { result ≡ xer_if asked }
+/// A register, where it is asked.
+pub fn slot_if(asked: bool, slot: Slot) -> Option<Slot>
+    requires { IsSlot slot }
+    ensures value { result ≡ slot_if asked slot }
     ensures there { IfSome result IsSlot }
 {
-    if asked { Some(Slot::Xer) } else { None }
-}
-
-/// CR field 0, where it is asked.
-pub fn field_if(asked: bool) -> Option<Slot>
-    ensures value { result ≡ field_if asked }
-    ensures there { IfSome result IsSlot }
-{
-    if asked { Some(Slot::CrField(0)) } else { None }
+    if asked { Some(slot) } else { None }
 }

@@ -3,6 +3,7 @@
 #![tactic(auto)]
 
 mod access;
+mod condition;
 mod ending;
 mod event;
 mod events;
@@ -21,11 +22,14 @@ mod slot;
 mod slot_set;
 mod slots;
 mod sources;
+mod special;
 mod state;
 mod vector;
+mod writing;
 mod xer;
 
 pub use access::{Deed, Kind, Span, Touch};
+pub use condition::{bo_bit, falls, is_chosen};
 pub use ending::{sets_carries, writes_field, writes_overflows, writes_xer};
 pub use event::{End, Event};
 pub use events::Events;
@@ -33,19 +37,21 @@ pub use fetched::{Fetched, is_cut};
 pub use long::LongOp;
 pub use memory::{MemOp, MemWhat};
 pub use operation::{
-    Addend, Address, AluRow, BranchRow, Carry, Ending, Inputs, Operation, ProductRow, QuotientRow,
-    StorageRow, operation_at,
+    Addend, Address, AluRow, BitLogic, BranchRow, Carry, Ending, FieldRow, Inputs, Operation,
+    PickRow, ProductRow, QuotientRow, StorageRow, TrapRow, operation_at,
 };
 pub use outcome::{Operands, Outcome, Target};
 pub use pages::{Page, PageFault, Pages, StorageFault, Stretch, Stretches};
 pub use place::Places;
-pub use placing::{operand_of, places_of, register};
-pub use reading::{SlotView, operands, reads, targets, updated_of, written_of};
+pub use placing::{code, field, mask, operand_of, places_of, register};
+pub use reading::{SlotView, operands, reads};
 pub use real::{fetch_at, real_at};
 pub use regs::Regs;
 pub use slot::Slot;
 pub use slot_set::SlotSet;
 pub use slots::{get_slot, set_slot, set_targets};
+pub use special::{bi_of, bo_of};
 pub use state::State;
 pub use vector::Vector;
+pub use writing::{field_written, targets, updated_of, written_of};
 pub use xer::{XerBits, xer_bits, xer_of};

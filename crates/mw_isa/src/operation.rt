@@ -17,6 +17,14 @@ pub enum Operation {
     Quotient(QuotientRow),
     /// A branch.
     Branch(BranchRow),
+    /// A field of the condition register.
+    Field(FieldRow),
+    /// The fields of the condition register that a mask chooses.
+    Fields,
+    /// A number that goes by the condition register.
+    Pick(PickRow),
+    /// A trap, where a condition holds.
+    Trap(TrapRow),
     /// An access to storage.
     Storage(StorageRow),
     /// A hint, which changes nothing and accesses nothing (dcbt, dcbtst, pnop).
@@ -147,8 +155,99 @@ pub struct QuotientRow {
 /// The rows that branch (Book I, branch instructions).
 #[derive(Clone, Copy, Debug, PartialEq, Eq)]
 pub enum BranchRow {
-    /// b: always.
+    /// target: always, by a displacement.
     B,
+    /// BO,BI,target: where BO and BI permit it, by a displacement.
+    Bc,
+    /// BO,BI,BH: where they permit it, to LR.
+    Bclr,
+    /// BO,BI,BH: where they permit it, to CTR.
+    Bcctr,
+    /// BO,BI,BH: where they permit it, to TAR.
+    Bctar,
+}
+
+/// The rows that set one field of the condition register, by what it gets (Book I, fixed-point compare,
+/// move and condition register instructions).
+#[derive(Clone, Copy, Debug, PartialEq, Eq)]
+pub enum FieldRow {
+    /// BF,L,RA,SI or BF,L,RA,UI: how RA stands to the number, and SO.
+    CompareNumber {
+        /// Whether the numbers are signed.
+        signed: bool,
+    },
+    /// BF,L,RA,RB: how RA stands to RB, and SO.
+    Compare {
+        /// Whether the numbers are signed.
+        signed: bool,
+    },
+    /// BF,L,RA,RB: whether RA's low byte lies between two bytes of RB.
+    InRange,
+    /// BF,RA,RB: whether RA's low byte is one of RB's.
+    EqualsByte,
+    /// BF: OV, OV32, CA and CA32.
+    FromXer,
+    /// BF,BFA: another field.
+    FromField,
+    /// BT,BA,BB: its own content, with the bit BT made of the bits BA and BB.
+    Logic(BitLogic),
+}
+
+/// What a row makes of two bits of the condition register.
+#[derive(Clone, Copy, Debug, PartialEq, Eq)]
+pub enum BitLogic {
+    /// Neither.
+    Crnor,
+    /// The first and not the second.
+    Crandc,
+    /// One alone.
+    Crxor,
+    /// Not both.
+    Crnand,
+    /// Both.
+    Crand,
+    /// Both or neither.
+    Creqv,
+    /// The first, or not the second.
+    Crorc,
+    /// One or both.
+    Cror,
+}
+
+/// The rows that set a register by the condition register (Book I, fixed-point select, move and set
+/// instructions).
+#[derive(Clone, Copy, Debug, PartialEq, Eq)]
+pub enum PickRow {
+    /// RT,RA,RB,BC: RA|0 where the bit is 1, and else RB.
+    Select,
+    /// RT: the register whole.
+    All,
+    /// RT,FXM: the fields that the mask chooses.
+    Chosen,
+    /// RT,BFA: -1 where the field's LT is 1, 1 where else its GT is, and else 0.
+    Sign,
+    /// RT,BI: a number where the bit is 1, and else 0.
+    Bit {
+        /// Whether the number is -1, and else 1.
+        negative: bool,
+        /// Whether it is set where the bit is 0.
+        reversed: bool,
+    },
+}
+
+/// The rows that trap where a condition of TO holds (Book I, fixed-point trap instructions).
+#[derive(Clone, Copy, Debug, PartialEq, Eq)]
+pub enum TrapRow {
+    /// TO,RA,SI: of RA and the number.
+    TrapNumber {
+        /// Whether whole registers are compared, and else low words.
+        long: bool,
+    },
+    /// TO,RA,RB: of RA and RB.
+    TrapRegister {
+        /// Whether whole registers are compared, and else low words.
+        long: bool,
+    },
 }
 
 /// Where an access finds its effective address, and with it the places of its operands.
@@ -208,10 +307,10 @@ static OPERATIONS: [Operation; 224] = [
     alu!(Addic, SourceNumber, NoCarry, CarriesAndRecords), // addic.
     alu!(Subfic, SourceNumber, NoCarry, Carries), // subfic
     product!(Signed, SourceNumber, NoAddend, false, false), // mulli
-    Operation::Later, // cmpi
-    Operation::Later, // cmpli
-    Operation::Later, // tdi
-    Operation::Later, // twi
+    Operation::Field(FieldRow::CompareNumber { signed: true }), // cmpi
+    Operation::Field(FieldRow::CompareNumber { signed: false }), // cmpli
+    Operation::Trap(TrapRow::TrapNumber { long: true }), // tdi
+    Operation::Trap(TrapRow::TrapNumber { long: false }), // twi
     alu!(Ori, SourceNumber, NoCarry, Plain), // ori
     alu!(Oris, SourceNumber, NoCarry, Plain), // oris
     alu!(Xori, SourceNumber, NoCarry, Plain), // xori
@@ -220,19 +319,19 @@ static OPERATIONS: [Operation; 224] = [
     alu!(Andis, SourceNumber, NoCarry, Records), // andis.
     alu!(Addpcis, Next, NoCarry, Plain), // addpcis
     Operation::Branch(BranchRow::B), // b
-    Operation::Later, // bc
-    Operation::Later, // bclr
-    Operation::Later, // bcctr
-    Operation::Later, // bctar
-    Operation::Later, // crnor
-    Operation::Later, // crandc
-    Operation::Later, // crxor
-    Operation::Later, // crnand
-    Operation::Later, // crand
-    Operation::Later, // creqv
-    Operation::Later, // crorc
-    Operation::Later, // cror
-    Operation::Later, // mcrf
+    Operation::Branch(BranchRow::Bc), // bc
+    Operation::Branch(BranchRow::Bclr), // bclr
+    Operation::Branch(BranchRow::Bcctr), // bcctr
+    Operation::Branch(BranchRow::Bctar), // bctar
+    Operation::Field(FieldRow::Logic(BitLogic::Crnor)), // crnor
+    Operation::Field(FieldRow::Logic(BitLogic::Crandc)), // crandc
+    Operation::Field(FieldRow::Logic(BitLogic::Crxor)), // crxor
+    Operation::Field(FieldRow::Logic(BitLogic::Crnand)), // crnand
+    Operation::Field(FieldRow::Logic(BitLogic::Crand)), // crand
+    Operation::Field(FieldRow::Logic(BitLogic::Creqv)), // creqv
+    Operation::Field(FieldRow::Logic(BitLogic::Crorc)), // crorc
+    Operation::Field(FieldRow::Logic(BitLogic::Cror)), // cror
+    Operation::Field(FieldRow::FromField), // mcrf
     alu!(Rlwinm, WordMask, NoCarry, Plain), // rlwinm
     alu!(Rlwnm, WordMaskBy, NoCarry, Plain), // rlwnm
     alu!(Rlwimi, WordInsert, NoCarry, Plain), // rlwimi
@@ -314,23 +413,23 @@ static OPERATIONS: [Operation; 224] = [
     alu!(Cfuged, Two, NoCarry, Plain), // cfuged
     alu!(Bpermd, Two, NoCarry, Plain), // bpermd
     alu!(Cmpb, Two, NoCarry, Plain), // cmpb
-    Operation::Later, // cmp
-    Operation::Later, // cmpl
-    Operation::Later, // tw
-    Operation::Later, // td
-    Operation::Later, // isel
-    Operation::Later, // mfcr
-    Operation::Later, // mfocrf
-    Operation::Later, // mtcrf
-    Operation::Later, // mtocrf
-    Operation::Later, // setb
-    Operation::Later, // setbc
-    Operation::Later, // setbcr
-    Operation::Later, // setnbc
-    Operation::Later, // setnbcr
-    Operation::Later, // cmprb
-    Operation::Later, // cmpeqb
-    Operation::Later, // mcrxrx
+    Operation::Field(FieldRow::Compare { signed: true }), // cmp
+    Operation::Field(FieldRow::Compare { signed: false }), // cmpl
+    Operation::Trap(TrapRow::TrapRegister { long: false }), // tw
+    Operation::Trap(TrapRow::TrapRegister { long: true }), // td
+    Operation::Pick(PickRow::Select), // isel
+    Operation::Pick(PickRow::All), // mfcr
+    Operation::Pick(PickRow::Chosen), // mfocrf
+    Operation::Fields, // mtcrf
+    Operation::Fields, // mtocrf
+    Operation::Pick(PickRow::Sign), // setb
+    Operation::Pick(PickRow::Bit { negative: false, reversed: false }), // setbc
+    Operation::Pick(PickRow::Bit { negative: false, reversed: true }), // setbcr
+    Operation::Pick(PickRow::Bit { negative: true, reversed: false }), // setnbc
+    Operation::Pick(PickRow::Bit { negative: true, reversed: true }), // setnbcr
+    Operation::Field(FieldRow::InRange), // cmprb
+    Operation::Field(FieldRow::EqualsByte), // cmpeqb
+    Operation::Field(FieldRow::FromXer), // mcrxrx
     Operation::Storage(StorageRow { what: MemWhat::Load { signed: false, reversed: false, reserve: false }, len: 4, address: Address::Displaced, update: false }), // lwz
     Operation::Storage(StorageRow { what: MemWhat::Load { signed: false, reversed: false, reserve: false }, len: 4, address: Address::Displaced, update: true }), // lwzu
     Operation::Storage(StorageRow { what: MemWhat::Load { signed: false, reversed: false, reserve: false }, len: 1, address: Address::Displaced, update: false }), // lbz

@@ -1,6 +1,7 @@
 use crate::long::LongOp;
 use crate::memory::MemOp;
 use crate::slot::Slot;
+use crate::vector::Vector;
 use arrayvec::ArrayVec;
 
 /// A register that an instruction writes, with its value once that is known.
@@ -49,4 +50,11 @@ pub enum Outcome {
     Long(LongOp),
     /// It accesses storage.
     Memory(MemOp),
+    /// It raises an interrupt.
+    Trap {
+        /// Which.
+        vector: Vector,
+        /// The bits of SRR1 that tell why, at their places; not the one that tells of a prefix.
+        cause: u64,
+    },
 }

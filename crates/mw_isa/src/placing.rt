@@ -1,8 +1,8 @@
 ghost use Rattle.std.specs.Prelude.{◌≡◌, ◌<◌};
-ghost use Rattle.mw_isa.specs.Places.{IsRegister, access_roles, branch_roles, input_roles, operand_of, places_in, places_of, with_datum};
+ghost use Rattle.mw_isa.specs.Places.{IsRegister, access_roles, branch_roles, field_roles, fields_roles, input_roles, operand_of, pick_roles, places_in, places_of, trap_roles, with_datum};
 
 use crate::memory::MemWhat;
-use crate::operation::{Address, BranchRow, Inputs, Operation};
+use crate::operation::{Address, BranchRow, FieldRow, Inputs, Operation, PickRow, TrapRow};
 use crate::place::Places;
 use mw_decode::Insn;
 
@@ -122,6 +122,64 @@ fn branch_places(row: BranchRow) -> Places
             number: Some(0),
             ..NONE
         },
+        BranchRow::Bc => Places {
+            number: Some(2),
+            ..NONE
+        },
+        BranchRow::Bclr => NONE,
+        BranchRow::Bcctr => NONE,
+        BranchRow::Bctar => NONE,
+    }
+}
+
+/// Where the operands of a row that sets a field of the condition register stand.
+#[rattlefmt::skip]
+fn field_places(row: FieldRow) -> Places
+    ensures { result ≡ places_in (field_roles row) }
+{
+    match row {
+        FieldRow::CompareNumber { .. } => Places { first: Some(2), number: Some(3), ..NONE },
+        FieldRow::Compare { .. } => Places { first: Some(2), second: Some(3), ..NONE },
+        FieldRow::InRange => Places { first: Some(2), second: Some(3), ..NONE },
+        FieldRow::EqualsByte => Places { first: Some(1), second: Some(2), ..NONE },
+        FieldRow::FromXer => NONE,
+        FieldRow::FromField => NONE,
+        FieldRow::Logic(_) => NONE,
+    }
+}
+
+/// Where the operands of a row that sets the fields of a mask stand.
+fn fields_places() -> Places
+    ensures { result ≡ places_in fields_roles }
+{
+    Places {
+        first: Some(1),
+        ..NONE
+    }
+}
+
+/// Where the operands of a row that sets a register by the condition register stand.
+#[rattlefmt::skip]
+fn pick_places(row: PickRow) -> Places
+    ensures { result ≡ places_in (pick_roles row) }
+{
+    match row {
+        PickRow::Select => Places { written: Some(0), base: Some(1), second: Some(2), ..NONE },
+        PickRow::All => Places { written: Some(0), ..NONE },
+        PickRow::Chosen => Places { written: Some(0), ..NONE },
+        PickRow::Sign => Places { written: Some(0), ..NONE },
+        PickRow::Bit { .. } => Places { written: Some(0), ..NONE },
+    }
+}
+
+/// Where the operands of a trap stand.
+#[rattlefmt::skip]
+fn trap_places(row: TrapRow) -> Places
+    ensures { result ≡ places_in (trap_roles row) }
+{
+    match row {
+        TrapRow::TrapNumber { .. } => Places { first: Some(1), number: Some(2), ..NONE },
+        TrapRow::TrapRegister { .. } => Places { first: Some(1), second: Some(2), ..NONE },
     }
 }
 
@@ -135,6 +193,10 @@ pub fn places_of(operation: Operation) -> Places
         Operation::Product(row) => input_places(row.inputs),
         Operation::Quotient(_) => input_places(Inputs::Two),
         Operation::Branch(row) => branch_places(row),
+        Operation::Field(row) => field_places(row),
+        Operation::Fields => fields_places(),
+        Operation::Pick(row) => pick_places(row),
+        Operation::Trap(row) => trap_places(row),
         Operation::Storage(row) => access_places(row.address, row.what),
         Operation::Hint => NONE,
         Operation::Later => NONE,
@@ -161,6 +223,32 @@ pub fn register(insn: &Insn, place: u8) -> u8
     requires { IsRegister insn.now place }
     ensures value { result ≡ operand_of insn.now place }
     ensures bound { result < 32 }
+{
+    operand_of(insn, place) as u8
+}
+
+/// The number of five bits at a place: BO, BI, a bit of the condition register, or TO.
+pub fn code(insn: &Insn, place: u8) -> u8
+    requires { operand_of insn.now place < 32 }
+    ensures value { result ≡ operand_of insn.now place }
+    ensures bound { result < 32 }
+{
+    operand_of(insn, place) as u8
+}
+
+/// The number of a field of the condition register at a place.
+pub fn field(insn: &Insn, place: u8) -> u8
+    requires { operand_of insn.now place < 8 }
+    ensures value { result ≡ operand_of insn.now place }
+    ensures bound { result < 8 }
+{
+    operand_of(insn, place) as u8
+}
+
+/// The mask of fields at a place.
+pub fn mask(insn: &Insn, place: u8) -> u8
+    requires { operand_of insn.now place < 256 }
+    ensures { result ≡ operand_of insn.now place }
 {
     operand_of(insn, place) as u8
 }

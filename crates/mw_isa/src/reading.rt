@@ -1,16 +1,14 @@
-ghost use Rattle.std.specs.Prelude.{◌≡◌, ℕ, ◌<◌, [], IfSome};
+ghost use Rattle.std.specs.Prelude.{◌≡◌, ℕ, IfSome};
 ghost use Rattle.mw_decode.specs.Decode.{IsInsn};
 ghost use Rattle.mw_isa.specs.declared.slot.Slot.{Slot};
-ghost use Rattle.mw_isa.specs.Endings.{xer_if};
-ghost use Rattle.mw_isa.specs.Execute.{written_of, updated_of};
-ghost use Rattle.mw_isa.specs.Places.{HasRegisters, IsRegister, places_of};
-ghost use Rattle.mw_isa.specs.Reads.{base_at, first_source, held, operands_by, operands_in, reads_of, register_at, slots_in, sources_at, special_reads};
-ghost use Rattle.mw_isa.specs.Slots.{IsSlot, bits_of, get_slot};
-ghost use Rattle.mw_isa.specs.Targets.{access_slots, end_slots, ending_slots, targets_by, targets_of, update_slots};
+ghost use Rattle.mw_isa.specs.Places.{HasRegisters, IsRegister};
+ghost use Rattle.mw_isa.specs.Reads.{base_at, chosen_digits, first_source, held, operands_by, operands_in, part_if, reads_of, register_at, sources_at};
+ghost use Rattle.mw_isa.specs.Slots.{IsSlot, bits_of, bits_upon, get_slot};
+ghost use Rattle.mw_isa.specs.Special.{fields_in, special_slots};
 
-use crate::ending::{field_if, long_reads_xer, reads_xer, writes_field, writes_xer, xer_if};
-use crate::memory::MemWhat;
-use crate::operation::{Ending, Operation, StorageRow, operation_at};
+use crate::condition::is_chosen;
+use crate::ending::slot_if;
+use crate::operation::operation_at;
 use crate::outcome::Operands;
 use crate::place::Places;
 use crate::placing::{operand_of, places_of, register};
@@ -18,7 +16,8 @@ use crate::regs::Regs;
 use crate::slot::Slot;
 use crate::slot_set::SlotSet;
 use crate::slots::get_slot;
-use crate::sources::Sources;
+use crate::sources::{Sources, Special};
+use crate::special::special_of;
 use mw_decode::Insn;
 
 /// Where the contents of registers come from: the registers themselves, or what older instructions that
@@ -40,7 +39,7 @@ impl SlotView for Regs {
 }
 
 /// The register at a place, if there is one.
-fn register_at(insn: &Insn, place: Option<u8>) -> Option<Slot>
+pub fn register_at(insn: &Insn, place: Option<u8>) -> Option<Slot>
     requires { IfSome place (IsRegister insn.now) }
     ensures value { result ≡ register_at insn.now place }
     ensures there { IfSome result IsSlot }
@@ -107,50 +106,50 @@ fn held<V: SlotView>(view: &V, slot: Option<Slot>) -> u64
     }
 }
 
-/// The operands that are made of these registers alone, as they are seen.
-fn plain_operands<V: SlotView>(sources: Sources, view: &V, msr: u64) -> Operands
-    ensures { result ≡ operands_by sources [] (V.view view.now) msr }
+/// What a register is seen to hold, or 0 where it isn't read.
+fn part_if<V: SlotView>(asked: bool, view: &V, slot: Slot) -> u64
+    ensures { result ≡ part_if asked (V.view view.now) slot }
+{
+    if asked { view.slot(slot) } else { 0 }
+}
+
+/// The fields of the condition register that a mask chooses, as they are seen, and 0 for the others.
+fn chosen_digits<V: SlotView>(view: &V, mask: u8) -> u32
+    ensures { result ≡ chosen_digits (V.view view.now) mask 8 }
+{
+    let mut cr = 0;
+    for number in 0..8u8 {
+        let digit = part_if(is_chosen(mask, number), view, Slot::CrField(number)) % 16;
+        cr = cr * 16 + digit as u32;
+    }
+    cr
+}
+
+/// The same; without a look at the fields where the mask chooses none.
+fn seen_fields<V: SlotView>(view: &V, mask: u8) -> u32
+    ensures { result ≡ chosen_digits (V.view view.now) mask 8 }
+{
+    if mask == 0 {
+        0
+    } else {
+        chosen_digits(view, mask)
+    }
+}
+
+/// The operands that are made of these registers, as they are seen.
+fn operands_by<V: SlotView>(sources: Sources, special: Special, view: &V, msr: u64) -> Operands
+    ensures { result ≡ operands_by sources special (V.view view.now) msr }
 {
     Operands {
         a: held(view, sources.a),
         b: held(view, sources.b),
         c: held(view, sources.c),
-        cr: 0,
-        xer: 0,
-        lr: 0,
-        ctr: 0,
-        tar: 0,
+        cr: seen_fields(view, special.fields),
+        xer: part_if(special.xer, view, Slot::Xer),
+        lr: part_if(special.lr, view, Slot::Lr),
+        ctr: part_if(special.ctr, view, Slot::Ctr),
+        tar: part_if(special.tar, view, Slot::Tar),
         msr,
-    }
-}
-
-/// The operands that are made of these registers, and of XER where it is read, as they are seen.
-fn operands_by<V: SlotView>(sources: Sources, xer: bool, view: &V, msr: u64) -> Operands
-    ensures { result ≡ operands_by sources (slots_in (xer_if xer)) (V.view view.now) msr }
-{
-    let plain = plain_operands(sources, view, msr);
-    if xer {
-        Operands {
-            xer: view.slot(Slot::Xer),
-            ..plain
-        }
-    } else {
-        plain
-    }
-}
-
-/// Whether an operation reads XER, which is the one register that it reads beside its operands.
-fn special_xer(operation: Operation, insn: &Insn) -> bool
-    ensures { special_reads operation insn.now ≡ slots_in (xer_if result) }
-{
-    match operation {
-        Operation::Alu(row) => reads_xer(row, insn),
-        Operation::Product(_) => long_reads_xer(insn),
-        Operation::Quotient(_) => long_reads_xer(insn),
-        Operation::Branch(_) => false,
-        Operation::Storage(_) => false,
-        Operation::Hint => false,
-        Operation::Later => false,
     }
 }
 
@@ -164,10 +163,35 @@ pub fn operands<V: SlotView>(insn: &Insn, view: &V, msr: u64) -> Operands
     let operation = operation_at(insn.row);
     operands_by(
         sources_at(insn, places_of(operation)),
-        special_xer(operation, insn),
+        special_of(operation, insn),
         view,
         msr,
     )
+}
+
+/// A set with the fields of the condition register that a mask chooses.
+pub fn with_fields(mask: u8, set: SlotSet) -> SlotSet
+    ensures { result.bits ≡ bits_upon (fields_in mask 8) set.bits }
+{
+    let mut set = set;
+    let mut number = 8;
+    while number > 0 {
+        number -= 1;
+        set = set.with(slot_if(is_chosen(mask, number), Slot::CrField(number)));
+    }
+    set
+}
+
+/// The registers that are read beside the operands, as a set.
+fn special_set(special: Special) -> SlotSet
+    ensures { result.bits ≡ bits_of (special_slots special) }
+{
+    let named = SlotSet::NONE
+        .with(slot_if(special.tar, Slot::Tar))
+        .with(slot_if(special.ctr, Slot::Ctr))
+        .with(slot_if(special.lr, Slot::Lr))
+        .with(slot_if(special.xer, Slot::Xer));
+    with_fields(special.fields, named)
 }
 
 /// The registers that an instruction reads, as a set, known from the instruction alone. It can't fail.
@@ -177,126 +201,8 @@ pub fn reads(insn: &Insn) -> SlotSet
 {
     let operation = operation_at(insn.row);
     let sources = sources_at(insn, places_of(operation));
-    SlotSet::NONE
-        .with(xer_if(special_xer(operation, insn)))
+    special_set(special_of(operation, insn))
         .with(sources.c)
         .with(sources.b)
         .with(sources.a)
-}
-
-/// The register that is written, or 0 where none is.
-pub fn written_of(insn: &Insn, places: Places) -> u8
-    requires { HasRegisters insn.now places }
-    ensures value { result ≡ written_of places insn.now }
-    ensures bound { result < 32 }
-{
-    match places.written {
-        None => 0,
-        Some(at) => register(insn, at),
-    }
-}
-
-/// The register that gets the effective address, where the row updates it.
-pub fn updated_of(insn: &Insn, row: StorageRow, places: Places) -> Option<u8>
-    requires { HasRegisters insn.now places }
-    ensures value { result ≡ updated_of row places insn.now }
-    ensures bound { IfSome result (λ n. n < 32) }
-{
-    match places.base {
-        None => None,
-        Some(at) => {
-            if row.update {
-                Some(register(insn, at))
-            } else {
-                None
-            }
-        }
-    }
-}
-
-/// The set of one register, if there is one.
-fn only(slot: Option<Slot>) -> SlotSet
-    requires { IfSome slot IsSlot }
-    ensures { result.bits ≡ bits_of (slots_in slot) }
-{
-    SlotSet::NONE.with(slot)
-}
-
-/// The register that is updated.
-fn update_set(update: Option<u8>) -> SlotSet
-    requires { IfSome update (λ n. n < 32) }
-    ensures { result.bits ≡ bits_of (update_slots update) }
-{
-    match update {
-        None => SlotSet::NONE,
-        Some(number) => only(Some(Slot::Gpr(number))),
-    }
-}
-
-/// The registers that an access writes.
-fn access_set(what: MemWhat, to: u8, update: Option<u8>) -> SlotSet
-    requires to { to < 32 }
-    requires update { IfSome update (λ n. n < 32) }
-    ensures { result.bits ≡ bits_of (access_slots what to update) }
-{
-    match what {
-        MemWhat::Load { .. } => update_set(update).with(Some(Slot::Gpr(to))),
-        MemWhat::Store { .. } => update_set(update),
-        MemWhat::Conditional { .. } => only(Some(Slot::CrField(0))),
-        MemWhat::Zero => SlotSet::NONE,
-        MemWhat::Clean => SlotSet::NONE,
-        MemWhat::Icbi => SlotSet::NONE,
-    }
-}
-
-/// The registers that are written at the end of an arithmetic row.
-fn ending_set(ending: Ending, insn: &Insn, places: Places) -> SlotSet
-    requires { HasRegisters insn.now places }
-    ensures { result.bits ≡ bits_of (ending_slots ending places insn.now) }
-{
-    SlotSet::NONE
-        .with(field_if(writes_field(ending, insn)))
-        .with(xer_if(writes_xer(ending, insn)))
-        .with(register_at(insn, places.written))
-}
-
-/// The registers that are written at the end of a product or a quotient.
-fn end_set(insn: &Insn, places: Places) -> SlotSet
-    requires { HasRegisters insn.now places }
-    ensures { result.bits ≡ bits_of (end_slots (written_of places insn.now) insn.now.oe insn.now.rc) }
-{
-    SlotSet::NONE
-        .with(field_if(insn.rc))
-        .with(xer_if(insn.oe))
-        .with(Some(Slot::Gpr(written_of(insn, places))))
-}
-
-/// The registers that an operation writes.
-fn operation_set(operation: Operation, insn: &Insn) -> SlotSet
-    requires { HasRegisters insn.now (places_of operation) }
-    ensures { result.bits ≡ bits_of (targets_by operation insn.now) }
-{
-    let places = places_of(operation);
-    match operation {
-        Operation::Alu(row) => ending_set(row.ending, insn, places),
-        Operation::Product(_) => end_set(insn, places),
-        Operation::Quotient(_) => end_set(insn, places),
-        Operation::Branch(_) => SlotSet::NONE,
-        Operation::Storage(row) => access_set(
-            row.what,
-            written_of(insn, places),
-            updated_of(insn, row, places),
-        ),
-        Operation::Hint => SlotSet::NONE,
-        Operation::Later => SlotSet::NONE,
-    }
-}
-
-/// The registers that an instruction writes, as a set, known before their values. It can't fail.
-#[tactic(auto, unfolding(crate::specs::Targets::targets_of))]
-pub fn targets(insn: &Insn) -> SlotSet
-    requires { IsInsn insn.now }
-    ensures { result.bits ≡ bits_of (targets_of insn.now) }
-{
-    operation_set(operation_at(insn.row), insn)
 }

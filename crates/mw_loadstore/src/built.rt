@@ -99,6 +99,7 @@ pub fn is_built_outcome(outcome: &Outcome, placed: &Option<Result<Stretches, Pag
     match outcome {
         Outcome::Done { .. } => true,
         Outcome::Long(_) => true,
+        Outcome::Trap { .. } => false,
         Outcome::Memory(op) => match placed {
             None => false,
             Some(Err(_)) => false,

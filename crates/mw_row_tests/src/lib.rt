@@ -1,8 +1,18 @@
-//! The tests of arithmetic: each row in each of its forms, by what it leaves.
+//! The tests of rows: each in each of its forms, by what it leaves.
 #![tactic(auto)]
 
 #[cfg(test)]
+mod alone;
+#[cfg(test)]
+mod branches;
+#[cfg(test)]
+mod compares;
+#[cfg(test)]
+mod conditions;
+#[cfg(test)]
 mod logic;
+#[cfg(test)]
+mod loops;
 #[cfg(test)]
 mod programs;
 #[cfg(test)]
@@ -11,5 +21,7 @@ mod results;
 mod rotates;
 #[cfg(test)]
 mod sums;
+#[cfg(test)]
+mod traps;
 #[cfg(test)]
 mod units;

@@ -1,16 +1,12 @@
+use crate::alone::{OTHER, first, lay, retires};
 use crate::logic::LOGIC;
 use crate::rotates::{ROTATES, SHIFTS};
 use crate::sums::SUMS;
 use crate::units::{PERMUTES, PRODUCTS, QUOTIENTS};
-use mw_bus::Ram;
-use mw_isa::State;
-use mw_soc::Devices;
-use mw_step::{Prepared, carry_out, prepare};
-use std::alloc::{AllocError as NoMemory, Global};
 use std::test::Fail;
 
 /// A word and the one behind it; its address; the contents of r3, r4, r5 and XER before it; and those of r5, XER and
-/// field 0 of CR behind it. CR is 0 before each, and r0 is [`OTHER`].
+/// field 0 of CR behind it. CR is 0 before each.
 pub struct Row(
     pub u32,
     pub u32,
@@ -21,39 +17,9 @@ pub struct Row(
     pub u32,
 );
 
-/// What stands in r0.
-const OTHER: u64 = 0xdead_beef_0bad_f00d;
-
-/// Carries out a row's instruction at its address; whether it retired.
-fn retires(state: &mut State, prepared: &mut Prepared, row: &Row) -> bool {
-    let Row(word, suffix, cia, [third, fourth, fifth, xer], ..) = row;
-    let at = u64::from(*cia);
-    state.ram.write(at, &word.to_le_bytes());
-    state.ram.write(at + 4, &suffix.to_le_bytes());
-    state.regs.gpr = [OTHER; 32];
-    state.regs.gpr[3] = *third;
-    state.regs.gpr[4] = *fourth;
-    state.regs.gpr[5] = *fifth;
-    state.regs.xer = *xer;
-    state.regs.cr = 0;
-    state.regs.cia = at;
-    if prepare(state, prepared) {
-        carry_out(state, prepared);
-        true
-    } else {
-        false
-    }
-}
-
-/// The state in which a row's instruction is carried out first.
-fn first(alloc: Global) -> Result<State, NoMemory> {
-    Ok(State::new(Ram::new(alloc, &[])?, Devices::new(alloc, 0)?))
-}
-
 #[test]
 fn each_row_in_each_form(rt: HostRuntime) -> Result<(), Fail> {
     let mut state = first(rt.alloc())?;
-    let mut prepared = Prepared::new();
     for rows in [
         SUMS.as_slice(),
         LOGIC.as_slice(),
@@ -64,7 +30,13 @@ fn each_row_in_each_form(rt: HostRuntime) -> Result<(), Fail> {
         QUOTIENTS.as_slice(),
     ] {
         for row in rows {
-            assert!(rt; retires(&mut state, &mut prepared, row), "{:08x}", row.0);
+            let [third, fourth, fifth, xer] = row.3;
+            lay(&mut state, row.0, row.1, row.2);
+            state.regs.gpr[3] = third;
+            state.regs.gpr[4] = fourth;
+            state.regs.gpr[5] = fifth;
+            state.regs.xer = xer;
+            assert!(rt; retires(&mut state), "{:08x}", row.0);
             assert_eq!(rt; state.regs.gpr[5], row.4, "r5 of {:08x}", row.0);
             assert_eq!(rt; state.regs.xer, row.5, "XER of {:08x}", row.0);
             assert_eq!(rt;

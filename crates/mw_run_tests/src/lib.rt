@@ -9,3 +9,5 @@ mod faults;
 mod runs;
 #[cfg(test)]
 mod shared;
+#[cfg(test)]
+mod worked;

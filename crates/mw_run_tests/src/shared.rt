@@ -19,7 +19,7 @@ tar 0000000000000000
 ";
 
 /// The lines between that of the address and that of the decrementer.
-const BETWEEN: &str = "\
+pub const BETWEEN: &str = "\
 msr 9000000000001001
 srr0 0000000000000000
 srr1 0000000000000000
@@ -30,7 +30,7 @@ dsisr 00000000
 ";
 
 /// The lines between that of the decrementer and that of the UART.
-const BEHIND: &str = "\
+pub const BEHIND: &str = "\
 pidr 00000000
 sprg0 0000000000000000
 sprg1 0000000000000000

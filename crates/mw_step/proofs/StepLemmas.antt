@@ -12,9 +12,9 @@ use Rattle.mw_isa.specs.State.{State}
 use Rattle.mw_isa.specs.Fetch.{fetched, is_cut}
 use Rattle.mw_isa.specs.Reads.{operands_of}
 use Rattle.mw_isa.specs.Long.{IsStarted}
-use Rattle.mw_isa.specs.Execute.{exec_of}
+use Rattle.mw_isa.specs.Execute.{exec_of, is_built_row}
 use Rattle.mw_isa.specs.Storage.{IsSized, OnMemory, IsPlaced}
-use Rattle.mw_isa.specs.Step.{Placed, IsKnown, OnLong, OnPlaced, step, insn_in, insn_of, decoded_of, placed_of, builds, is_built, is_built_outcome, state_behind}
+use Rattle.mw_isa.specs.Step.{Placed, IsKnown, OnLong, OnPlaced, step, insn_in, insn_of, decoded_of, placed_of, builds, is_built_outcome, state_behind}
 use Rattle.mw_isa.proofs.StepLaws.{after-known, builds-known, builds-none, builds-not, insn_of-cut, insn_of-whole}
 use Rattle.mw_step.specs.declared.prepared.Prepared.{Prepared}
 use Rattle.mw_step.specs.Prepared.{IsPrepared, Prepares}
@@ -49,7 +49,7 @@ pub unbuilt-none : (state : State) (words : Fetched) → fetched state ≡ Some 
 unbuilt-none state words there whole none = unbuilt-words state words (decoded_of words) (record { there = there; whole = whole; what_is = refl }) (none-insn (decoded_of words) none)
 
 -- nor is an instruction of a row or a form that isn't
-pub unbuilt-insn : (state : State) (words : Fetched) (insn : Insn) → Met state words (Is insn) → is_built insn ≡ false → builds state ≡ false
+pub unbuilt-insn : (state : State) (words : Fetched) (insn : Insn) → Met state words (Is insn) → is_built_row insn ≡ false → builds state ≡ false
 unbuilt-insn state words insn m unbuilt = builds-not words insn state m.there (met state words (Is insn) m) unbuilt
 
 -- what an instruction comes to, from the operands that were read
@@ -61,17 +61,17 @@ known-is state words insn operands outcome m o e = record {
 }
 
 -- whether it is built, from where its access stands
-built-by : (state : State) (words : Fetched) (insn : Insn) (operands : Operands) (outcome : Outcome) (placed : Option Placed) → Met state words (Is insn) → operands ≡ operands_of insn state.regs → exec_of insn operands state.regs.cia ≡ Some outcome → placed ≡ placed_of outcome state.regs.msr → builds state ≡ (is_built insn && is_built_outcome (Some outcome) placed)
+built-by : (state : State) (words : Fetched) (insn : Insn) (operands : Operands) (outcome : Outcome) (placed : Option Placed) → Met state words (Is insn) → operands ≡ operands_of insn state.regs → exec_of insn operands state.regs.cia ≡ Some outcome → placed ≡ placed_of outcome state.regs.msr → builds state ≡ (is_built_row insn && is_built_outcome (Some outcome) placed)
 built-by state words insn operands outcome placed m o e p =
     builds-known words insn outcome state (known-is state words insn operands outcome m o e)
-    ∙ ap (λ (v : Option Placed). is_built insn && is_built_outcome (Some outcome) v) (sym p)
+    ∙ ap (λ (v : Option Placed). is_built_row insn && is_built_outcome (Some outcome) v) (sym p)
 
 -- nor is one that isn't by what it comes to
 unbuilt-outcome : (state : State) (words : Fetched) (insn : Insn) (operands : Operands) (outcome : Outcome) (placed : Option Placed) → Met state words (Is insn) → operands ≡ operands_of insn state.regs → exec_of insn operands state.regs.cia ≡ Some outcome → placed ≡ placed_of outcome state.regs.msr → is_built_outcome (Some outcome) placed ≡ false → builds state ≡ false
-unbuilt-outcome state words insn operands outcome placed m o e p stopped = built-by state words insn operands outcome placed m o e p ∙ and_right (is_built insn) _ stopped
+unbuilt-outcome state words insn operands outcome placed m o e p stopped = built-by state words insn operands outcome placed m o e p ∙ and_right (is_built_row insn) _ stopped
 
 -- one that is built is prepared so
-prepared-is : (state : State) (prepared : Prepared) (operands : Operands) → Met state prepared.words (Is prepared.insn) → operands ≡ operands_of prepared.insn state.regs → exec_of prepared.insn operands state.regs.cia ≡ Some prepared.outcome → prepared.placed ≡ placed_of prepared.outcome state.regs.msr → is_built prepared.insn ≡ true → is_built_outcome (Some prepared.outcome) prepared.placed ≡ true → IsInsn prepared.insn → OnLong IsStarted prepared.outcome → OnMemory IsSized prepared.outcome → OnPlaced IsPlaced prepared.outcome prepared.placed → IsPrepared prepared state
+prepared-is : (state : State) (prepared : Prepared) (operands : Operands) → Met state prepared.words (Is prepared.insn) → operands ≡ operands_of prepared.insn state.regs → exec_of prepared.insn operands state.regs.cia ≡ Some prepared.outcome → prepared.placed ≡ placed_of prepared.outcome state.regs.msr → is_built_row prepared.insn ≡ true → is_built_outcome (Some prepared.outcome) prepared.placed ≡ true → IsInsn prepared.insn → OnLong IsStarted prepared.outcome → OnMemory IsSized prepared.outcome → OnPlaced IsPlaced prepared.outcome prepared.placed → IsPrepared prepared state
 prepared-is state prepared operands m o e p built done is started sized stands = record {
   known = known-is state prepared.words prepared.insn operands prepared.outcome m o e;
   placed = p;
@@ -81,7 +81,7 @@ prepared-is state prepared operands m o e p built done is started sized stands =
 }
 
 -- what is told of the next instruction, by whether what it comes to is built
-pub prepares-by : (state : State) (prepared : Prepared) (operands : Operands) (done : Bool) → Met state prepared.words (Is prepared.insn) → operands ≡ operands_of prepared.insn state.regs → exec_of prepared.insn operands state.regs.cia ≡ Some prepared.outcome → prepared.placed ≡ placed_of prepared.outcome state.regs.msr → is_built prepared.insn ≡ true → done ≡ is_built_outcome (Some prepared.outcome) prepared.placed → IsInsn prepared.insn → OnLong IsStarted prepared.outcome → OnMemory IsSized prepared.outcome → OnPlaced IsPlaced prepared.outcome prepared.placed → Prepares prepared done state
+pub prepares-by : (state : State) (prepared : Prepared) (operands : Operands) (done : Bool) → Met state prepared.words (Is prepared.insn) → operands ≡ operands_of prepared.insn state.regs → exec_of prepared.insn operands state.regs.cia ≡ Some prepared.outcome → prepared.placed ≡ placed_of prepared.outcome state.regs.msr → is_built_row prepared.insn ≡ true → done ≡ is_built_outcome (Some prepared.outcome) prepared.placed → IsInsn prepared.insn → OnLong IsStarted prepared.outcome → OnMemory IsSized prepared.outcome → OnPlaced IsPlaced prepared.outcome prepared.placed → Prepares prepared done state
 prepares-by state prepared operands true m o e p built done is started sized stands = prepared-is state prepared operands m o e p built (sym done) is started sized stands
 prepares-by state prepared operands false m o e p built done is started sized stands =
     unbuilt-outcome state prepared.words prepared.insn operands prepared.outcome prepared.placed m o e p (sym done)

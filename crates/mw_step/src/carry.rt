@@ -19,6 +19,7 @@ fn write(outcome: &mut Outcome, placed: &Option<Result<Stretches, PageFault>>, s
     match outcome {
         Outcome::Done { targets, .. } => set_targets(targets.as_slice(), &mut state.regs),
         Outcome::Long(op) => finish_long(op, &mut state.regs),
+        Outcome::Trap { .. } => {}
         Outcome::Memory(op) => match placed {
             None => {}
             Some(Err(_)) => {}

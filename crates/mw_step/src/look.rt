@@ -5,7 +5,7 @@ use crate::fetch::fetch;
 use crate::place::placed_of;
 use crate::prepared::Prepared;
 use mw_decode::decode_into;
-use mw_exec::{exec_into, is_built};
+use mw_exec::{exec_into, is_built_row};
 use mw_isa::{State, is_cut, operands};
 use mw_loadstore::is_built_outcome;
 
@@ -26,7 +26,7 @@ pub fn prepare(state: &State, prepared: &mut Prepared) -> bool
     if !decode_into(words.word, words.suffix, &mut prepared.insn) {
         return false;
     }
-    if !is_built(&prepared.insn) {
+    if !is_built_row(&prepared.insn) {
         return false;
     }
     prepared.words = words;

@@ -48,6 +48,7 @@ pub fn placed_of(outcome: &Outcome, msr: u64, placed: &mut Option<Result<Stretch
     match outcome {
         Outcome::Done { .. } => *placed = None,
         Outcome::Long(_) => *placed = None,
+        Outcome::Trap { .. } => *placed = None,
         Outcome::Memory(op) => *placed = Some(stretches_of(&pages_of(op))),
     }
 }

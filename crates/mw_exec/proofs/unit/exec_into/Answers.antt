@@ -3,7 +3,7 @@ use Rattle.mw_decode.proofs.Ranges.{IsInsn-row}
 use Rattle.mw_isa.specs.Storage.{IsSized, OnMemory}
 use Rattle.mw_isa.proofs.StorageLaws.{storage-sized}
 use Rattle.mw_isa.proofs.RowLaws.{limited, registers}
-use Rattle.mw_isa.specs.declared.operation.Operation.TheVariants.{Alu, Product, Quotient, Storage}
+use Rattle.mw_isa.specs.declared.operation.Operation.TheVariants.{Alu, Product, Quotient, Branch, Field, Fields, Pick, Trap, Storage}
 use Rattle.mw_exec.proofs.unit.exec_into.Goals as goal
 
 pub operation_at-requires : goal.operation_at-requires
@@ -19,7 +19,7 @@ pub arithmetic_of-requires-clause-registers : goal.arithmetic_of-requires-clause
 arithmetic_of-requires-clause-registers c = registers c.args.insn.now (Alu c.in-Alu.row) c.requires.insn c.in-Alu.ensures
 
 pub arithmetic_of-requires-clause-limits : goal.arithmetic_of-requires-clause-limits
-arithmetic_of-requires-clause-limits c = limited c.args.insn.now c.in-Alu.row c.requires.insn c.in-Alu.ensures
+arithmetic_of-requires-clause-limits c = limited c.args.insn.now (Alu c.in-Alu.row) c.requires.insn c.in-Alu.ensures
 
 pub product_by-requires : goal.product_by-requires
 product_by-requires c = registers c.args.insn.now (Product c.in-Product.row) c.requires.insn c.in-Product.ensures
@@ -33,3 +33,33 @@ storage_of-requires c = registers c.args.insn.now (Storage c.in-Storage.row) c.r
 pub returns-in-Storage-clause-sized : goal.returns-in-Storage-clause-sized
 returns-in-Storage-clause-sized c =
     subst (OnMemory IsSized) (sym c.storage_of.ensures) (storage-sized c.args.insn.now.row c.in-Storage.row c.in-Storage.ensures)
+
+pub branch_of-requires : goal.branch_of-requires
+branch_of-requires c = limited c.args.insn.now (Branch c.in-Branch.row) c.requires.insn c.in-Branch.ensures
+
+pub field_of-requires-clause-row : goal.field_of-requires-clause-row
+field_of-requires-clause-row c = IsInsn-row c.args.insn.now c.requires.insn
+
+pub field_of-requires-clause-limits : goal.field_of-requires-clause-limits
+field_of-requires-clause-limits c = limited c.args.insn.now (Field c.in-Field.row) c.requires.insn c.in-Field.ensures
+
+pub fields_of-requires-clause-row : goal.fields_of-requires-clause-row
+fields_of-requires-clause-row c = IsInsn-row c.args.insn.now c.requires.insn
+
+pub fields_of-requires-clause-limits : goal.fields_of-requires-clause-limits
+fields_of-requires-clause-limits c = limited c.args.insn.now Fields c.requires.insn c.in-Fields.ensures
+
+pub pick_of-requires-clause-row : goal.pick_of-requires-clause-row
+pick_of-requires-clause-row c = IsInsn-row c.args.insn.now c.requires.insn
+
+pub pick_of-requires-clause-registers : goal.pick_of-requires-clause-registers
+pick_of-requires-clause-registers c = registers c.args.insn.now (Pick c.in-Pick.row) c.requires.insn c.in-Pick.ensures
+
+pub pick_of-requires-clause-limits : goal.pick_of-requires-clause-limits
+pick_of-requires-clause-limits c = limited c.args.insn.now (Pick c.in-Pick.row) c.requires.insn c.in-Pick.ensures
+
+pub trap_of-requires-clause-row : goal.trap_of-requires-clause-row
+trap_of-requires-clause-row c = IsInsn-row c.args.insn.now c.requires.insn
+
+pub trap_of-requires-clause-limits : goal.trap_of-requires-clause-limits
+trap_of-requires-clause-limits c = limited c.args.insn.now (Trap c.in-Trap.row) c.requires.insn c.in-Trap.ensures
