@@ -1,5 +1,5 @@
 -- What decoding gives is an instruction of the table: its row has its forms, its operands are in range, and they are no illegal form.
-use Rattle.std.proofs.Common.{rules, ◌≡◌, ℕ, Option, Some, None, false, refl, subst, slice_get}
+use Rattle.std.proofs.Common.{rules, ◌≡◌, ℕ, Bool, Option, Some, None, true, false, refl, ap, ◌∙◌, subst, slice_get}
 use Rattle.std.proofs.lemmas.Bool.{and_parts, cond_both}
 use Rattle.mw_tables.specs.declared.layout.Layout.{Layout}
 use Rattle.mw_tables.specs.Row.{TableRow}
@@ -11,7 +11,7 @@ use Rattle.mw_decode.specs.declared.insn.Decoded.{Decoded}
 use Rattle.mw_decode.specs.declared.insn.Decoded.TheVariants.{Insn as Is}
 use Rattle.mw_decode.specs.Rules.{is_illegal_form}
 use Rattle.mw_decode.specs.Unavailable.{without_row, without_row_prefixed}
-use Rattle.mw_decode.specs.Decode.{IsInsn, OnInsn, code_of, place_of, if_legal, insn_of, insn_by, insn_at, insn_or, otherwise, decode_of}
+use Rattle.mw_decode.specs.Decode.{IsInsn, OnInsn, code_of, place_of, if_legal, insn_of, insn_by, insn_at, insn_or, otherwise, found_of, Finds, is_insn, Decodes, decode_of}
 
 -- a fact on the instruction, where there is one
 abbrev OnSome : (Insn → Type 0) → Option Insn → Type 0
@@ -63,3 +63,34 @@ decode_of-IsInsn word suffix =
 -- so is an instruction that a word is known to be
 pub decode_of-Is : (word : ℕ) (suffix : Option ℕ) (insn : Insn) → decode_of word suffix ≡ Is insn → IsInsn insn
 decode_of-Is word suffix insn is = let moved = subst (λ d. OnInsn IsInsn d) is (decode_of-IsInsn word suffix) in moved
+
+-- what a word is else is no instruction, by the test
+without_row-is_insn : (word : ℕ) → is_insn (without_row word) ≡ false
+without_row-is_insn word = search rules
+
+without_row_prefixed-is_insn : (prefix suffix : ℕ) → is_insn (without_row_prefixed prefix suffix) ≡ false
+without_row_prefixed-is_insn prefix suffix = search rules
+
+otherwise-is_insn : (word : ℕ) (suffix : Option ℕ) → is_insn (otherwise word suffix) ≡ false
+otherwise-is_insn word None = without_row-is_insn word
+otherwise-is_insn word (Some suffix) = without_row_prefixed-is_insn word suffix
+
+-- what a word is follows from the instruction that was found
+pub found-Decodes : (word : ℕ) (suffix : Option ℕ) (there : Bool) (insn : Insn) → Finds there insn (found_of word suffix) → Decodes there insn (decode_of word suffix)
+unfolding decode_of
+found-Decodes word suffix true insn e = ap (λ (o : Option Insn). insn_or o (otherwise word suffix)) e
+found-Decodes word suffix false insn e = ap (λ (o : Option Insn). is_insn (insn_or o (otherwise word suffix))) e ∙ otherwise-is_insn word suffix
+
+-- and one that was found is of the table
+pub found-IsInsn : (word : ℕ) (suffix : Option ℕ) (there : Bool) (insn : Insn) → Finds there insn (found_of word suffix) → there ≡ true → IsInsn insn
+found-IsInsn word suffix true insn e is = subst (λ (d : Decoded). OnInsn IsInsn d) (found-Decodes word suffix true insn e) (decode_of-IsInsn word suffix)
+found-IsInsn word suffix false insn e is = cc
+
+-- a word that is no instruction is what it is else
+insn_or-other : (found : Option Insn) (other : Decoded) → is_insn (insn_or found other) ≡ false → other ≡ insn_or found other
+insn_or-other (Some insn) other e = cc
+insn_or-other None other e = refl
+
+pub none-otherwise : (word : ℕ) (suffix : Option ℕ) → is_insn (decode_of word suffix) ≡ false → otherwise word suffix ≡ decode_of word suffix
+unfolding decode_of
+none-otherwise word suffix e = insn_or-other (found_of word suffix) (otherwise word suffix) e

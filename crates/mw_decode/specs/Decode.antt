@@ -72,6 +72,15 @@ abbrev pub insn_at : ℕ → Option ℕ → Option Insn
 insn_at code None = None
 insn_at code (Some place) = insn_by code place (slice_get table place) (slice_get layouts place)
 
+-- the instruction that a word is, with its suffix where it is a prefix
+abbrev pub found_of : ℕ → Option ℕ → Option Insn
+found_of word suffix = insn_at (code_of word suffix) (place_of word suffix)
+
+-- what is told of an instruction that may be there: that it is this one, or that it isn't there
+abbrev pub Finds : Bool → Insn → Option Insn → Type 0
+Finds true insn found = found ≡ Some insn
+Finds false insn found = found ≡ None
+
 -- what a word is where it isn't an instruction
 abbrev pub otherwise : ℕ → Option ℕ → Decoded
 otherwise word None = without_row word
@@ -84,7 +93,19 @@ insn_or None other = other
 
 -- what a word is, with its suffix where it is a prefix
 unfoldable pub decode_of : ℕ → Option ℕ → Decoded
-decode_of word suffix = insn_or (insn_at (code_of word suffix) (place_of word suffix)) (otherwise word suffix)
+decode_of word suffix = insn_or (found_of word suffix) (otherwise word suffix)
+
+-- it is an instruction
+abbrev pub is_insn : Decoded → Bool
+is_insn (Is insn) = true
+is_insn (Unavailable facility) = false
+is_insn (Alignment ra rb disp) = false
+is_insn Illegal = false
+
+-- what is told of what a word is: that it is this instruction, or that it is none
+abbrev pub Decodes : Bool → Insn → Decoded → Type 0
+Decodes true insn decoded = decoded ≡ Is insn
+Decodes false insn decoded = is_insn decoded ≡ false
 
 -- a form is there only where the row has it
 abbrev pub HasForms : TableRow → Insn → Type 0

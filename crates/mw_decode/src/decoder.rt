@@ -1,11 +1,11 @@
-ghost use Rattle.std.specs.Prelude.{◌≡◌, ◌<◌, ◌≤◌, ◌↔◌, IfSome, IsTrue, Some, is_some, length};
+ghost use Rattle.std.specs.Prelude.{◌≡◌, ◌<◌, ◌≤◌, ◌↔◌, IfSome, IsTrue, None, Some, is_some, length, true};
 ghost use Rattle.std.specs.List.{list_all};
 ghost use Rattle.mw_prefix.specs.Wide.{split_of};
 ghost use Rattle.mw_tables.specs.Row.{row_of};
 ghost use Rattle.mw_tables.specs.Rows.{row_count, table};
 ghost use Rattle.mw_tables.specs.Layouts.{is_readable, operands_in};
 ghost use Rattle.mw_tables.specs.Matching.{MatchesAt, matches, row_place};
-ghost use Rattle.mw_decode.specs.Decode.{IsInsn, OnInsn, decode_of, insn_at, is_prefix, is_set, place_behind};
+ghost use Rattle.mw_decode.specs.Decode.{Decodes, Finds, IsInsn, OnInsn, decode_of, found_of, insn_at, is_prefix, is_set, otherwise, place_behind};
 
 use crate::groups::leading_place;
 use crate::insn::{Decoded, Insn};
@@ -73,67 +73,82 @@ fn is_set(code: u64, at: u32) -> bool
     code / (1 << (31 - at)) % 2 == 1
 }
 
-/// The operands that a code has in these fields.
-fn operands_in(code: u64, fields: &[Field]) -> ArrayVec<i64, 6>
+/// The operands that a code has in these fields, written over `found`.
+fn operands_in(code: u64, fields: &[Field], found: &mut ArrayVec<i64, 6>)
     requires readable { IsTrue (list_all is_readable fields.now) }
     requires few { length fields.now ≤ 6 }
-    ensures { result.items ≡ operands_in code fields.now }
+    ensures { found.new.items ≡ operands_in code fields.now }
 {
-    let mut found = ArrayVec::new();
+    found.clear();
     for field in fields {
         found.push(operand_in(code, field));
     }
-    found
 }
 
-/// The instruction of the row at a place of the table, unless its operands are an illegal form.
-#[inline(always)]
-fn insn_at(code: u64, place: u16) -> Option<Insn>
+/// The instruction of the row at a place of the table, written over `insn`, and `false` where its operands are
+/// an illegal form.
+fn insn_at(code: u64, place: u16, insn: &mut Insn) -> bool
     requires { place < row_count }
-    ensures { result ≡ insn_at code (Some place) }
+    ensures { Finds result insn.new (insn_at code (Some place)) }
 {
-    let ops = operands_in(code, fields_of(layout_at(place)));
-    if is_illegal_form(place, ops.as_slice()) {
-        return None;
+    operands_in(code, fields_of(layout_at(place)), &mut insn.ops);
+    if is_illegal_form(place, insn.ops.as_slice()) {
+        return false;
     }
     let row = row_at(place);
-    Some(Insn {
-        row: place,
-        ops,
-        oe: row.oe && is_set(code, 21),
-        rc: row.rc && is_set(code, 31),
-        aa: row.absolute && is_set(code, 30),
-        lk: row.links && is_set(code, 31),
-    })
+    insn.row = place;
+    insn.oe = row.oe && is_set(code, 21);
+    insn.rc = row.rc && is_set(code, 31);
+    insn.aa = row.absolute && is_set(code, 30);
+    insn.lk = row.links && is_set(code, 31);
+    true
 }
 
-/// What a word is that isn't a prefix.
-#[tactic(auto, unfolding(crate::specs::Decode::decode_of))]
-fn decode_word(word: u32) -> Decoded
-    ensures { result ≡ decode_of word None }
+/// The instruction that a word is which isn't a prefix, written over `insn`, if it is one.
+fn find_word(word: u32, insn: &mut Insn) -> bool
+    ensures { Finds result insn.new (found_of word None) }
 {
-    let Some(place) = row_place(PrefixKind::Plain, word) else {
-        return without_row(word);
-    };
-    match insn_at(u64::from(word), place) {
-        Some(insn) => Decoded::Insn(insn),
-        None => without_row(word),
+    match row_place(PrefixKind::Plain, word) {
+        Some(place) => insn_at(u64::from(word), place, insn),
+        None => false,
     }
 }
 
-/// What a prefix with its suffix is.
-#[tactic(auto, unfolding(crate::specs::Decode::decode_of))]
+/// The instruction that a prefix with its suffix is, written over `insn`, if it is one.
 #[inline(never)]
-fn decode_pair(prefix: u32, suffix: u32) -> Decoded
-    ensures { result ≡ decode_of prefix (Some suffix) }
+fn find_pair(prefix: u32, suffix: u32, insn: &mut Insn) -> bool
+    ensures { Finds result insn.new (found_of prefix (Some suffix)) }
 {
-    let Some(place) = place_behind(prefix, suffix) else {
-        return without_row_prefixed(prefix, suffix);
-    };
-    let code = u64::from(prefix) * 0x1_0000_0000 + u64::from(suffix);
-    match insn_at(code, place) {
-        Some(insn) => Decoded::Insn(insn),
-        None => without_row_prefixed(prefix, suffix),
+    match place_behind(prefix, suffix) {
+        Some(place) => {
+            let code = u64::from(prefix) * 0x1_0000_0000 + u64::from(suffix);
+            insn_at(code, place, insn)
+        }
+        None => false,
+    }
+}
+
+/// The instruction that `word` is, a plain word or a prefix with its suffix (Book I, instruction formats),
+/// written over `insn`; `false` where it is none: `insn` is then of no use but to be written over. It can't
+/// fail.
+pub fn decode_into(word: u32, suffix: Option<u32>, insn: &mut Insn) -> bool
+    requires { is_some suffix ≡ is_prefix word }
+    ensures value { Decodes result insn.new (decode_of word suffix) }
+    ensures insn { result ≡ true → IsInsn insn.new }
+{
+    match suffix {
+        Some(suffix) => find_pair(word, suffix, insn),
+        None => find_word(word, insn),
+    }
+}
+
+/// What a word is where it isn't an instruction.
+fn otherwise(word: u32, suffix: Option<u32>) -> Decoded
+    ensures { result ≡ otherwise word suffix }
+{
+    match suffix {
+        Some(suffix) => without_row_prefixed(word, suffix),
+        None => without_row(word),
     }
 }
 
@@ -147,8 +162,10 @@ pub fn decode(word: u32, suffix: Option<u32>) -> Decoded
     ensures value { result ≡ decode_of word suffix }
     ensures insn { OnInsn IsInsn result }
 {
-    match suffix {
-        Some(suffix) => decode_pair(word, suffix),
-        None => decode_word(word),
+    let mut insn = Insn::new();
+    if decode_into(word, suffix, &mut insn) {
+        Decoded::Insn(insn)
+    } else {
+        otherwise(word, suffix)
     }
 }

@@ -17,6 +17,21 @@ pub struct Insn {
     pub lk: bool,
 }
 
+impl Insn {
+    /// A place for `decode_into` to write to: row 0 with no operand and no form. It takes no memory, and can't
+    /// fail.
+    pub fn new() -> Insn {
+        Insn {
+            row: 0,
+            ops: ArrayVec::new(),
+            oe: false,
+            rc: false,
+            aa: false,
+            lk: false,
+        }
+    }
+}
+
 /// A facility that the machine doesn't have (Book III, unavailable interrupts).
 #[derive(Clone, Copy, Debug, PartialEq, Eq)]
 pub enum Facility {

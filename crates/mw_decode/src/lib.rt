@@ -9,7 +9,7 @@ mod rule;
 mod unavailable;
 mod word;
 
-pub use decoder::{decode, is_prefix};
+pub use decoder::{decode, decode_into, is_prefix};
 pub use encoder::encode;
 pub use insn::{Code, Decoded, Facility, Insn};
 pub use rule::{Rule, is_illegal_form};

@@ -36,33 +36,12 @@ pub fn next_of(insn: &Insn, outcome: &Outcome, regs: &Regs, cia: u64) -> u64
     }
 }
 
-/// No register is written, and the instruction at this address follows. The outcome is written where it stands,
-/// since it is long: one of the same kind is emptied.
-pub fn branch_to(to: u64, outcome: &mut Outcome)
-    ensures { outcome.new ≡ branch_to to }
+/// No register is written, and the instruction at this address follows.
+pub fn branch_to(next: u64, outcome: &mut Outcome)
+    ensures { outcome.new ≡ branch_to next }
 {
-    match outcome {
-        Outcome::Done { targets, next } => {
-            targets.clear();
-            *next = to;
-        }
-        Outcome::Long(_) => {
-            *outcome = Outcome::Done {
-                targets: ArrayVec::new(),
-                next: to,
-            }
-        }
-        Outcome::Memory(_) => {
-            *outcome = Outcome::Done {
-                targets: ArrayVec::new(),
-                next: to,
-            }
-        }
-        Outcome::Trap { .. } => {
-            *outcome = Outcome::Done {
-                targets: ArrayVec::new(),
-                next: to,
-            }
-        }
-    }
+    *outcome = Outcome::Done {
+        targets: ArrayVec::new(),
+        next,
+    };
 }

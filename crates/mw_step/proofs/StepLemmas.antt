@@ -1,10 +1,10 @@
 -- What the next instruction is, from what its parts gave.
-use Rattle.std.proofs.Common.{◌≡◌, Bool, true, false, ◌&&◌, Option, Some, None, sym, ap, ap₂, ◌∙◌}
+use Rattle.std.proofs.Common.{◌≡◌, Bool, true, false, ◌&&◌, Option, Some, None, refl, sym, ap, ap₂, ◌∙◌}
 use Rattle.std.proofs.lemmas.Bool.{and_right}
 use Rattle.mw_decode.specs.declared.insn.Insn.{Insn}
 use Rattle.mw_decode.specs.declared.insn.Decoded.{Decoded}
-use Rattle.mw_decode.specs.declared.insn.Decoded.TheVariants.{Insn as Is}
-use Rattle.mw_decode.specs.Decode.{IsInsn}
+use Rattle.mw_decode.specs.declared.insn.Decoded.TheVariants.{Insn as Is, Unavailable, Alignment, Illegal}
+use Rattle.mw_decode.specs.Decode.{IsInsn, is_insn}
 use Rattle.mw_isa.specs.declared.fetched.Fetched.{Fetched}
 use Rattle.mw_isa.specs.declared.outcome.Operands.{Operands}
 use Rattle.mw_isa.specs.declared.outcome.Outcome.{Outcome}
@@ -34,8 +34,19 @@ pub unbuilt-cut : (state : State) (words : Fetched) → fetched state ≡ Some w
 unbuilt-cut state words there cut = builds-none words state there (insn_of-cut words cut)
 
 -- nor are words that are no instruction
-pub unbuilt-words : (state : State) (words : Fetched) (what : Decoded) → Met state words what → insn_in what ≡ None → builds state ≡ false
+unbuilt-words : (state : State) (words : Fetched) (what : Decoded) → Met state words what → insn_in what ≡ None → builds state ≡ false
 unbuilt-words state words what m none = builds-none words state m.there (met state words what m ∙ none)
+
+-- what is no instruction by the test is none
+none-insn : (what : Decoded) → is_insn what ≡ false → insn_in what ≡ None
+none-insn (Is insn) e = cc
+none-insn (Unavailable facility) e = refl
+none-insn (Alignment ra rb disp) e = refl
+none-insn Illegal e = refl
+
+-- so words that are none aren't built
+pub unbuilt-none : (state : State) (words : Fetched) → fetched state ≡ Some words → is_cut words ≡ false → is_insn (decoded_of words) ≡ false → builds state ≡ false
+unbuilt-none state words there whole none = unbuilt-words state words (decoded_of words) (record { there = there; whole = whole; what_is = refl }) (none-insn (decoded_of words) none)
 
 -- nor is an instruction of a row or a form that isn't
 pub unbuilt-insn : (state : State) (words : Fetched) (insn : Insn) → Met state words (Is insn) → is_built_row insn ≡ false → builds state ≡ false

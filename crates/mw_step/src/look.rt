@@ -4,7 +4,7 @@ ghost use Rattle.mw_step.specs.Prepared.{Prepares};
 use crate::fetch::fetch;
 use crate::place::placed_of;
 use crate::prepared::Prepared;
-use mw_decode::{Decoded, decode};
+use mw_decode::decode_into;
 use mw_exec::{exec_into, is_built_row};
 use mw_isa::{State, is_cut, operands};
 use mw_loadstore::is_built_outcome;
@@ -23,17 +23,13 @@ pub fn prepare(state: &State, prepared: &mut Prepared) -> bool
     if is_cut(&words) {
         return false;
     }
-    let insn = match decode(words.word, words.suffix) {
-        Decoded::Insn(insn) => insn,
-        Decoded::Unavailable(_) => return false,
-        Decoded::Alignment { .. } => return false,
-        Decoded::Illegal => return false,
-    };
-    if !is_built_row(&insn) {
+    if !decode_into(words.word, words.suffix, &mut prepared.insn) {
+        return false;
+    }
+    if !is_built_row(&prepared.insn) {
         return false;
     }
     prepared.words = words;
-    prepared.insn = insn;
     let found = operands(&prepared.insn, &state.regs, state.regs.msr);
     exec_into(&prepared.insn, &found, cia, &mut prepared.outcome);
     placed_of(&prepared.outcome, state.regs.msr, &mut prepared.placed);

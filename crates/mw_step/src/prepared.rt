@@ -23,14 +23,7 @@ impl Prepared {
                 word: 0,
                 suffix: None,
             },
-            insn: Insn {
-                row: 0,
-                ops: ArrayVec::new(),
-                oe: false,
-                rc: false,
-                aa: false,
-                lk: false,
-            },
+            insn: Insn::new(),
             outcome: Outcome::Done {
                 targets: ArrayVec::new(),
                 next: 0,
