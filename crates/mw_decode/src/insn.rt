@@ -1,3 +1,6 @@
+ghost use Rattle.std.specs.Prelude.{◌≡◌};
+ghost use Rattle.mw_decode.specs.Blank.{no_insn};
+
 use arrayvec::ArrayVec;
 
 /// An instruction: its row in the table, its operands in the order of the row, and its forms.
@@ -20,7 +23,9 @@ pub struct Insn {
 impl Insn {
     /// A place for `decode_into` to write to: row 0 with no operand and no form. It takes no memory, and can't
     /// fail.
-    pub fn new() -> Insn {
+    pub fn new() -> Insn
+        ensures { result ≡ no_insn }
+    {
         Insn {
             row: 0,
             ops: ArrayVec::new(),

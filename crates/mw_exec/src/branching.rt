@@ -122,18 +122,32 @@ fn branch_by(bo: u8, bit: bool, goal: u64, lk: bool, ctr: u64, cia: u64, outcome
     }
 }
 
+/// What b comes to: it is always taken, and LR is set with LK.
+fn always(goal: u64, lk: bool, cia: u64, outcome: &mut Outcome)
+    ensures { outcome.new ≡ branch_by 20 false goal lk 0 cia }
+{
+    branch_to(goal, outcome);
+    if let Outcome::Done { targets, .. } = outcome {
+        push_link(targets, lk, cia);
+    }
+}
+
 /// What the rows that branch come to (Book I, branch instructions).
 pub fn branch_of(row: BranchRow, insn: &Insn, operands: &Operands, cia: u64, outcome: &mut Outcome)
     requires { AreLimited insn.now 0 (branch_roles row) }
     ensures { outcome.new ≡ branch_of row insn.now operands.now cia }
 {
-    branch_by(
-        bo_of(row, insn),
-        cr_bit(operands.cr, bi_of(row, insn)),
-        goal_of(row, insn, operands, cia),
-        insn.lk,
-        operands.ctr,
-        cia,
-        outcome,
-    );
+    let goal = goal_of(row, insn, operands, cia);
+    match row {
+        BranchRow::B => always(goal, insn.lk, cia, outcome),
+        _ => branch_by(
+            bo_of(row, insn),
+            cr_bit(operands.cr, bi_of(row, insn)),
+            goal,
+            insn.lk,
+            operands.ctr,
+            cia,
+            outcome,
+        ),
+    }
 }

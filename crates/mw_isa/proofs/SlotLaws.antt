@@ -2,14 +2,14 @@
 -- share no bit share no register.
 use Rattle.std.proofs.Common.{◌≡◌, ℕ, ◌+◌, ◌-◌, ◌*◌, ◌/◌, ◌%◌, ◌^◌, ◌<◌, ◌≤◌, ◌≢◌, ⊎_elim, min, max, true, length, List, [], ◌∷◌, refl, sym, ap, ◌∙◌, bit_and, bit_or, arith, get_or-set_same, get_or-set_other, pow_pos, mod-lt}
 use Rattle.std.proofs.Math.Nat.{div-lt_iff_lt-mul, mul-add-div_right, mul-add-mod_self_right, div-div-eq-div-mul, div-eq_of_lt}
-use Rattle.std.proofs.lemmas.Bool.{eqb-true, cases_order}
+use Rattle.std.proofs.lemmas.Bool.{cases_order}
 use Rattle.std.proofs.lemmas.Nat.{pow-add, div-add-mod', mul-add-lt}
 use Rattle.std.proofs.lemmas.Nat.Bits.{bit_at_and, bit_at_or, bit_at-pow_same, bit_at-zero}
 use Rattle.std.specs.Int.{bit_at}
 use Rattle.mw_isa.specs.declared.regs.Regs.{Regs}
 use Rattle.mw_isa.specs.declared.slot.Slot.{Slot}
 use Rattle.mw_isa.specs.declared.slot.Slot.TheVariants.{Gpr, CrField, Xer, Lr, Ctr, Tar}
-use Rattle.mw_isa.specs.Slots.{field_unit, with_digit, get_slot, set_slot, IsSlot, FitsSlot, same_slot, slot_number, bits_of, IsAbsent, AreApart}
+use Rattle.mw_isa.specs.Slots.{field_unit, with_digit, get_slot, set_slot, IsSlot, FitsSlot, slot_number, bits_of, IsAbsent, AreApart}
 
 -- a number that is below r * 16 units keeps below that bound with another digit at the unit
 digit-lt : (x u r digit : ℕ) → 0 < u → x < r * (u * 16) → digit < 16 → with_digit x u digit < u * (r * 16)
@@ -112,16 +112,6 @@ get-set-other regs Lr Lr value first second different = absurd (different refl)
 get-set-other regs Ctr Ctr value first second different = absurd (different refl)
 get-set-other regs Tar Tar value first second different = absurd (different refl)
 get-set-other regs slot other value first second different = refl
-
--- two registers that test as one are one
-pub same_slot-is : (slot other : Slot) → same_slot slot other ≡ true → slot ≡ other
-same_slot-is (Gpr n) (Gpr m) same = ap Gpr (eqb-true n m same)
-same_slot-is (CrField n) (CrField m) same = ap CrField (eqb-true n m same)
-same_slot-is Xer Xer same = refl
-same_slot-is Lr Lr same = refl
-same_slot-is Ctr Ctr same = refl
-same_slot-is Tar Tar same = refl
-same_slot-is slot other same = cc
 
 -- a place where a power of two has a 0 isn't that of its 1
 clear-apart : (k i : ℕ) → bit_at (2 ^ k) i ≡ 0 → i ≢ k

@@ -44,16 +44,6 @@ abbrev pub FitsSlot : Slot → ℕ → Type 0
 FitsSlot (CrField n) value = value < 16
 FitsSlot slot value = ⊤
 
--- two names are of one register
-abbrev pub same_slot : Slot → Slot → Bool
-same_slot (Gpr n) (Gpr m) = n == m
-same_slot (CrField n) (CrField m) = n == m
-same_slot Xer Xer = true
-same_slot Lr Lr = true
-same_slot Ctr Ctr = true
-same_slot Tar Tar = true
-same_slot slot other = false
-
 -- a register written with its value, if that is known
 abbrev pub set_target : Target → Regs → Regs
 set_target target regs = option_map_or (λ value. set_slot regs target.slot value) target.value regs

@@ -120,9 +120,9 @@ fn goes_to_tar(row: BranchRow) -> bool
     }
 }
 
-/// What a branch reads beside its operands: the field of BI where it goes by the bit, CTR where that falls
-/// or is the target, and the target.
-fn branch_special(row: BranchRow, insn: &Insn) -> Special
+/// What a branch on BO and BI reads beside its operands: the field of BI where it goes by the bit, CTR where
+/// that falls or is the target, and the target.
+fn conditional_special(row: BranchRow, insn: &Insn) -> Special
     requires { AreLimited insn.now 0 (branch_roles row) }
     ensures { result ≡ branch_special row insn.now }
 {
@@ -137,6 +137,17 @@ fn branch_special(row: BranchRow, insn: &Insn) -> Special
         lr: goes_to_lr(row),
         ctr: falls(bo) || goes_to_ctr(row),
         tar: goes_to_tar(row),
+    }
+}
+
+/// What a branch reads beside its operands: b nothing.
+fn branch_special(row: BranchRow, insn: &Insn) -> Special
+    requires { AreLimited insn.now 0 (branch_roles row) }
+    ensures { result ≡ branch_special row insn.now }
+{
+    match row {
+        BranchRow::B => nothing(),
+        _ => conditional_special(row, insn),
     }
 }
 

@@ -1,13 +1,19 @@
 -- What is known of the next instruction before anything changes, and the event of its being carried out.
-use Rattle.std.specs.Prelude.{◌≡◌, Bool, true, false}
+use Rattle.std.specs.Prelude.{◌≡◌, Bool, true, false, [], None}
+use Rattle.mw_decode.specs.Blank.{no_insn}
 use Rattle.mw_decode.specs.Decode.{IsInsn}
 use Rattle.mw_isa.specs.declared.event.Event.{Event}
 use Rattle.mw_isa.specs.declared.event.Event.TheVariants.{Retire}
+use Rattle.mw_isa.specs.declared.outcome.Outcome.TheVariants.{Done}
 use Rattle.mw_isa.specs.State.{State}
 use Rattle.mw_isa.specs.Fetch.{fetched, word_of, suffix_of}
 use Rattle.mw_isa.specs.Step.{IsKnown, CanFinish, placed_of, builds}
 use Rattle.mw_soc.specs.Devices.{cycle_of}
 use Rattle.mw_step.specs.declared.prepared.Prepared.{Prepared}
+
+-- one to be written over, at which no instruction is known
+abbrev pub blank : Prepared
+blank = record { words = record { word = 0; suffix = None }; insn = no_insn; outcome = Done (record { items = [] }) 0; placed = None }
 
 -- this is what the next instruction of a state is made of, what it is and what it comes to, and it is built
 pub record IsPrepared (prepared : Prepared) (state : State) : Type 0 where

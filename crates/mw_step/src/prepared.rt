@@ -1,3 +1,6 @@
+ghost use Rattle.std.specs.Prelude.{◌≡◌};
+ghost use Rattle.mw_step.specs.Prepared.{blank};
+
 use arrayvec::ArrayVec;
 use mw_decode::Insn;
 use mw_isa::{Fetched, Outcome, PageFault, Stretches};
@@ -17,7 +20,9 @@ pub struct Prepared {
 
 impl Prepared {
     /// A place for `prepare` to write to, at which no instruction is known yet. It takes no memory, and can't fail.
-    pub fn new() -> Prepared {
+    pub fn new() -> Prepared
+        ensures { result ≡ blank }
+    {
         Prepared {
             words: Fetched {
                 word: 0,
