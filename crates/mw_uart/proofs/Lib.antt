@@ -1,2 +1,5 @@
 pub mod SentLemmas
+pub mod NumberLemmas
+pub mod CutLemmas
+pub mod ReadLemmas
 pub mod Laws
