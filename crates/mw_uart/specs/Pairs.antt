@@ -13,3 +13,8 @@ RisesTo low high (pair ∷ rest) = (low ≤ pair.0) × (pair.1 < 256) × RisesTo
 abbrev pub IfBad : BadScript → (Place → Type 0) → Type 0
 IfBad (Bad line column) P = P (record { line = line; column = column })
 IfBad NoMemory P = ⊤
+
+-- none of the cycles is below the one in front of it, or the first below this number
+abbrev pub DontFall : ℕ → List (ℕ × ℕ) → Type 0
+DontFall low [] = ⊤
+DontFall low (pair ∷ rest) = (low ≤ pair.0) × DontFall pair.0 rest
