@@ -3,7 +3,6 @@ ghost use Rattle.std.specs.List.{range_with_len};
 ghost use Rattle.mw_bus.specs.Memory.{ram_size};
 ghost use Rattle.mw_soc.specs.Devices.{cycle_of};
 ghost use Rattle.mw_isa.specs.State.{seen, brought};
-ghost use Rattle.mw_isa.specs.Start.{booted};
 ghost use Rattle.mw_isa.specs.Replay.{cycles_of};
 ghost use Rattle.mw_isa.specs.Runs.{Runs};
 ghost use Rattle.mw_isa.specs.Unbuilt.{first_unbuilt};
@@ -40,10 +39,10 @@ fn stopped(events: Events, mut state: State, n: u64) -> Run
 /// wanting.
 pub fn simulate(alloc: Global, image: &[u8], script: &Script, n: u64) -> Result<Run, RunFault>
     requires { n ≤ 4000000 }
-    ensures runs { IfOk result (λ run. Runs (booted image.now script.now) n run.events run.end (seen run.state)) }
+    ensures runs { IfOk result (λ run. Runs (record { image = image.now; script = script.now }) n run.events run.end (seen run.state)) }
     ensures each_cycle { IfOk result (λ run. cycles_of run.events ≡ range_with_len 0 n) }
-    ensures built { OnOk result (first_unbuilt (booted image.now script.now) n ≡ None) }
-    ensures cause { IfErr result (HasCause (booted image.now script.now) n) }
+    ensures built { OnOk result (first_unbuilt (record { image = image.now; script = script.now }) n ≡ None) }
+    ensures cause { IfErr result (HasCause (record { image = image.now; script = script.now }) n) }
     ensures too_large { (result ≡ Err RunFault.ImageTooLarge) ↔ (ram_size < length image.now) }
 {
     if image.len() > RAM_SIZE {

@@ -6,6 +6,7 @@ use mw_bus::Ram;
 use mw_isa::State;
 use mw_soc::Devices;
 use mw_step::{carry_out, prepare};
+use mw_uart::Script;
 use std::alloc::{AllocError as NoMemory, Global};
 use std::test::Fail;
 
@@ -48,7 +49,10 @@ fn retires(state: &mut State, row: &Row) -> bool {
 
 /// The state in which a row's instruction is carried out first.
 fn first(alloc: Global) -> Result<State, NoMemory> {
-    Ok(State::new(Ram::new(alloc, &[])?, Devices::new(alloc, 0)?))
+    Ok(State::new(
+        Ram::new(alloc, &[])?,
+        Devices::new(alloc, Script::new(alloc), 0)?,
+    ))
 }
 
 #[test]

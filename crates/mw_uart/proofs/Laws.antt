@@ -1,5 +1,5 @@
--- The laws of the UART at any cycle.
-use Rattle.std.proofs.Common.{◌≡◌, ℕ, suc, ◌+◌, ◌-◌, ◌*◌, ◌/◌, ◌%◌, ◌^◌, ◌<◌, ◌≤◌, ◌==◌, Bool, true, false, ◌||◌, cond, nat_lt, nat_le, ⊎_elim, List, [], ◌∷◌, ◌++◌, length, map, filter, take, drop, refl, sym, ap, ap₂, subst, zero-add, ◌∙◌, arith, append_assoc, take-add, drop-drop, length-drop, length-take-le, le-leb}
+-- The laws of the UART at any cycle, and of the text of a script.
+use Rattle.std.proofs.Common.{◌≡◌, ℕ, suc, ◌+◌, ◌-◌, ◌*◌, ◌/◌, ◌%◌, ◌^◌, ◌<◌, ◌≤◌, ◌==◌, Bool, true, false, ◌||◌, cond, nat_lt, nat_le, ⊎_elim, List, [], ◌∷◌, ◌++◌, length, map, filter, take, drop, Ok, Err, refl, sym, ap, ap₂, subst, zero-add, ◌∙◌, arith, append_assoc, take-add, drop-drop, length-drop, length-take-le, le-leb}
 use Rattle.std.specs.Int.{w64, to_le_bytes}
 use Rattle.std.proofs.lemmas.List.{map-append}
 use Rattle.std.proofs.Math.Seq.{take-nil}
@@ -9,8 +9,10 @@ use Rattle.mw_uart.specs.UartAt.{arrived_by, sent_by, next_due, uart_at}
 use Rattle.mw_uart.specs.Registers.{slot_of, loaded, after_load, after_store, with_number, with_tx}
 use Rattle.byteorder.specs.Endian.{little_number}
 use Rattle.mw_uart.specs.Pairs.{DontFall, RisesTo}
+use Rattle.mw_uart.specs.Script.{line_of, place_behind, read_from, script_of, text_limit}
 use Rattle.mw_uart.specs.Inside.{IsSent}
 use Rattle.mw_uart.proofs.SentLemmas.{same_parts, is_sent, sent_once, due_later, due_none}
+use Rattle.mw_uart.proofs.ReadLemmas.{script-long}
 use Rattle.mw_uart.proofs.ArrivalLemmas.{arrived_more, arrived_none, take_then}
 
 -- what is sent by a cycle and then by a later one is sent by the later one
@@ -252,3 +254,12 @@ uart_at-rising uart cycle [] r = refl
 uart_at-rising uart cycle (next ∷ cycles) r =
     let later = first-last next cycles r.1 in
     uart_at-rising (uart_at uart cycle) next cycles r.1 ∙ uart_at-then uart cycle (last_of next cycles) (let here = r.0 in omega arith)
+
+-- an empty text is a script of which no byte arrives
+pub script_of-empty : script_of [] ≡ Ok []
+unfolding script_of read_from line_of
+script_of-empty = refl
+
+-- a text that is too long is refused behind its first bytes, as many as it may have
+pub script_of-long : (text : List ℕ) → text_limit < length text → script_of text ≡ Err (place_behind (take text_limit text))
+script_of-long text long = script-long text long

@@ -1,4 +1,4 @@
-ghost use Rattle.std.specs.Prelude.{◌≡◌, ◌+◌, ◌<◌, ◌≤◌, ◌∷◌, ◌++◌, [], Ok, Err, length, IfOk, IfErr, IfSome, OnOk};
+ghost use Rattle.std.specs.Prelude.{◌≡◌, ◌+◌, ◌<◌, ◌≤◌, ◌∷◌, ◌++◌, [], Ok, Err, length, nat_lt, IfOk, IfErr, IfSome, OnOk};
 ghost use Rattle.std.specs.Option.{option_map_or};
 ghost use Rattle.std.specs.Result.{IsOkAnd};
 ghost use Rattle.mw_uart.specs.Script.{last_cycle, last_of, line_of, lines_of, pairs_of, place_behind, read_from, script_of, text_limit};
@@ -153,6 +153,13 @@ fn read_lines(alloc: Global, text: &[u8]) -> Result<Script, BadScript>
     }
 }
 
+/// A text has more bytes than it may have.
+fn is_too_long(text: &[u8]) -> bool
+    ensures { result ≡ nat_lt text_limit (length text.now) }
+{
+    text.len() > TEXT_LIMIT
+}
+
 /// The script that a text describes, or its first refused place.
 ///
 /// An empty line, or one that begins with `#`, is skipped. Any other line is a cycle, one space and an even, positive
@@ -164,7 +171,7 @@ pub fn read_script(alloc: Global, text: &[u8]) -> Result<Script, BadScript>
     ensures ok { IfOk result (λ script. script_of text.now ≡ Ok script) }
     ensures bad { IfErr result (λ fault. IfBad fault (λ place. script_of text.now ≡ Err place)) }
 {
-    if text.len() > TEXT_LIMIT {
+    if is_too_long(text) {
         return Err(place_behind(&text[..TEXT_LIMIT]));
     }
     read_lines(alloc, text)
