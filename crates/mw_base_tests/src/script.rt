@@ -2,6 +2,7 @@ ghost use Rattle.std.specs.Prelude.{◌≡◌};
 
 use mw_soc::Devices;
 use mw_uart::{BadScript, Script, Uart, read_script};
+use std::alloc::Global;
 use std::process::Abort;
 use std::test::Fail;
 
@@ -102,8 +103,8 @@ fn texts_are_read(rt: HostRuntime) -> Result<(), Fail> {
 }
 
 /// Whether a text is refused at this place.
-fn is_refused(rt: &HostRuntime, text: &[u8], line: u32, column: u32) -> bool {
-    match read_script(rt.alloc(), text) {
+fn is_refused(alloc: Global, text: &[u8], line: u32, column: u32) -> bool {
+    match read_script(alloc, text) {
         Ok(_) => false,
         Err(fault) => fault == BadScript::Bad { line, column },
     }
@@ -113,20 +114,20 @@ fn is_refused(rt: &HostRuntime, text: &[u8], line: u32, column: u32) -> bool {
 fn a_text_has_at_most_a_mebibyte(rt: HostRuntime) -> Result<(), Fail> {
     let mut text = vec![in rt.alloc(); b'#'; 1048577]?;
     assert!(rt; read_script(rt.alloc(), &text.as_slice()[..1048576]).is_ok());
-    assert!(rt; is_refused(&rt, text.as_slice(), 1, 1048577));
+    assert!(rt; is_refused(rt.alloc(), text.as_slice(), 1, 1048577));
     text.as_mut_slice()[1048575] = b'\n';
     assert!(rt; read_script(rt.alloc(), &text.as_slice()[..1048576]).is_ok());
-    assert!(rt; is_refused(&rt, text.as_slice(), 2, 1));
+    assert!(rt; is_refused(rt.alloc(), text.as_slice(), 2, 1));
     // it is refused before the line that isn't one
     text.as_mut_slice()[0] = b'x';
-    assert!(rt; is_refused(&rt, text.as_slice(), 2, 1));
-    assert!(rt; is_refused(&rt, &text.as_slice()[..1048576], 1, 1));
+    assert!(rt; is_refused(rt.alloc(), text.as_slice(), 2, 1));
+    assert!(rt; is_refused(rt.alloc(), &text.as_slice()[..1048576], 1, 1));
     Ok(())
 }
 
 /// The script of a text that is read.
-fn script_of(rt: &HostRuntime, text: &[u8]) -> Script {
-    match read_script(rt.alloc(), text) {
+fn script_of(rt: &impl Abort, alloc: Global, text: &[u8]) -> Script {
+    match read_script(alloc, text) {
         Ok(script) => script,
         Err(fault) => panic!(rt; "{fault:?}"),
     }
@@ -145,7 +146,7 @@ fn bring(rt: &impl Abort, uart: &mut Uart, cycle: u64)
 fn bytes_arrive_at_their_cycles(rt: HostRuntime) -> Result<(), Fail> {
     let mut uart = Uart::new(
         rt.alloc(),
-        script_of(&rt, b"0 41\n4 4243\n5 44\n4000000 45"),
+        script_of(&rt, rt.alloc(), b"0 41\n4 4243\n5 44\n4000000 45"),
         ROOM,
     )?;
     bring(&rt, &mut uart, 0);
@@ -174,7 +175,7 @@ fn bytes_arrive_at_their_cycles(rt: HostRuntime) -> Result<(), Fail> {
 #[test]
 fn seventeen_arrivals_keep_sixteen(rt: HostRuntime) -> Result<(), Fail> {
     let text = b"0 000102030405060708090a0b0c0d0e0f10\n1 11\n2 12";
-    let mut uart = Uart::new(rt.alloc(), script_of(&rt, text), ROOM)?;
+    let mut uart = Uart::new(rt.alloc(), script_of(&rt, rt.alloc(), text), ROOM)?;
     bring(&rt, &mut uart, 0);
     assert_eq!(rt; uart.load(0x10, 1)[0], 6);
     bring(&rt, &mut uart, 1);
@@ -191,7 +192,7 @@ fn seventeen_arrivals_keep_sixteen(rt: HostRuntime) -> Result<(), Fail> {
 
 #[test]
 fn bytes_arrive_at_the_devices(rt: HostRuntime) -> Result<(), Fail> {
-    let mut devices = Devices::new(rt.alloc(), script_of(&rt, b"2 4142"), 1)?;
+    let mut devices = Devices::new(rt.alloc(), script_of(&rt, rt.alloc(), b"2 4142"), 1)?;
     assert_eq!(rt; devices.load(0xC000_2010, 1)[0], 3);
     devices.advance(2);
     assert_eq!(rt; devices.load(0xC000_2008, 1)[0], 0x41);

@@ -59,14 +59,16 @@ number-great most n word r fits p is great = none_written most word (λ m small 
     let same : n ≡ m = cc in
     omega arith)
 
--- words that aren't two, four or six are no order
-pub no_order : (words : List (List ℕ)) → (length words ≡ 2 → ⊥) → (length words ≡ 4 → ⊥) → (length words ≡ 6 → ⊥) → order_of words ≡ None
+-- words that aren't two, four, six or eight are no order
+pub no_order : (words : List (List ℕ)) → (length words ≡ 2 → ⊥) → (length words ≡ 4 → ⊥) → (length words ≡ 6 → ⊥) → (length words ≡ 8 → ⊥) → order_of words ≡ None
 unfolding order_of
-no_order [] two four six = refl
-no_order (a ∷ []) two four six = refl
-no_order (a ∷ b ∷ []) two four six = absurd (two refl)
-no_order (a ∷ b ∷ c ∷ []) two four six = refl
-no_order (a ∷ b ∷ c ∷ d ∷ []) two four six = absurd (four refl)
-no_order (a ∷ b ∷ c ∷ d ∷ e ∷ []) two four six = refl
-no_order (a ∷ b ∷ c ∷ d ∷ e ∷ f ∷ []) two four six = absurd (six refl)
-no_order (a ∷ b ∷ c ∷ d ∷ e ∷ f ∷ g ∷ others) two four six = refl
+no_order [] two four six eight = refl
+no_order (a ∷ []) two four six eight = refl
+no_order (a ∷ b ∷ []) two four six eight = absurd (two refl)
+no_order (a ∷ b ∷ c ∷ []) two four six eight = refl
+no_order (a ∷ b ∷ c ∷ d ∷ []) two four six eight = absurd (four refl)
+no_order (a ∷ b ∷ c ∷ d ∷ e ∷ []) two four six eight = refl
+no_order (a ∷ b ∷ c ∷ d ∷ e ∷ f ∷ []) two four six eight = absurd (six refl)
+no_order (a ∷ b ∷ c ∷ d ∷ e ∷ f ∷ g ∷ []) two four six eight = refl
+no_order (a ∷ b ∷ c ∷ d ∷ e ∷ f ∷ g ∷ h ∷ []) two four six eight = absurd (eight refl)
+no_order (a ∷ b ∷ c ∷ d ∷ e ∷ f ∷ g ∷ h ∷ i ∷ others) two four six eight = refl

@@ -8,4 +8,6 @@ mod faults;
 #[cfg(test)]
 mod runs;
 #[cfg(test)]
+mod scripts;
+#[cfg(test)]
 mod shared;
