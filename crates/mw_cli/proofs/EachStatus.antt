@@ -113,11 +113,11 @@ run-stops-at None output status line e = cc
 run-stops-at (Some (cycle, cia)) output status line e = let same : status ≡ Unbuilt = cc in (same, (cycle, cia, refl, cc))
 
 -- a script that is refused at a place, with its line
-IsBad : List ℕ → Result (List (ℕ × ℕ)) ScriptPlace → Status → List ℕ → Type 0
+abbrev IsBad : List ℕ → Result (List (ℕ × ℕ)) ScriptPlace → Status → List ℕ → Type 0
 IsBad name read status line = (place : ScriptPlace) × (read ≡ Err place) × (status ≡ BadInput) × (line ≡ bad_line name place.line place.column)
 
 -- a script that is read, whose run reaches an instruction that isn't built, with its line
-IsStop : RunOrder → List ℕ → Result (List (ℕ × ℕ)) ScriptPlace → Status → List ℕ → Type 0
+abbrev IsStop : RunOrder → List ℕ → Result (List (ℕ × ℕ)) ScriptPlace → Status → List ℕ → Type 0
 IsStop order image read status line = (script : List (ℕ × ℕ)) × (read ≡ Ok script) × (status ≡ Unbuilt) × ((cycle : ℕ) × (cia : ℕ) × (first_unbuilt (run_by order image script).boot order.cycles ≡ Some (cycle, cia)) × (line ≡ unbuilt_line cia))
 
 -- behind its image a run is refused for its script, or for an instruction that isn't built
@@ -130,7 +130,7 @@ bad-or-stop name order image (Err place) status line e = let same : status ≡ B
 -- with ImageTooLarge the image of a run is longer than RAM
 run-too-large : (host : Change HostState) (order : RunOrder) (line : List ℕ) → ComesTo host (Run order) (Refuses ImageTooLarge line) → IsTooLong host order.image
 run-too-large host order line (contents, are, comes) = elim (long-or-so (first_of contents) _ ImageTooLarge line comes) [
-  | inl (long, e) ↦ (first_of contents, first-is host.before.files _ _ contents are, long)
+  | inl (long, e) ↦ (first_of contents, first-is host.before.files (record { name = order.image; most = ram_size }) (script_files order.script) contents are, long)
   | inr (short, e) ↦ elim (bad-or-stop _ order (first_of contents) _ ImageTooLarge line e) [
     | inl (place, read, other, rest) ↦ cc
     | inr (script, read, other, rest) ↦ cc
@@ -140,7 +140,7 @@ run-too-large host order line (contents, are, comes) = elim (long-or-so (first_o
 -- and so is that of a disassembly
 listing-too-large : (host : Change HostState) (name line : List ℕ) → ComesTo host (Disassemble name) (Refuses ImageTooLarge line) → IsTooLong host name
 listing-too-large host name line (contents, are, comes) = elim (long-or-so (first_of contents) _ ImageTooLarge line comes) [
-  | inl (long, e) ↦ (first_of contents, first-is host.before.files _ _ contents are, long)
+  | inl (long, e) ↦ (first_of contents, first-is host.before.files (record { name = name; most = ram_size }) [] contents are, long)
   | inr (short, e) ↦ cc
 ]
 
@@ -159,12 +159,18 @@ run-unbuilt host order line (contents, are, comes) = elim (long-or-so (first_of 
   | inl (long, e) ↦ cc
   | inr (short, e) ↦ elim (bad-or-stop _ order (first_of contents) _ Unbuilt line e) [
     | inl (place, read, other, rest) ↦ cc
-    | inr (script, read, same, (cycle, cia, stop, told)) ↦
-        (first_of contents, script, cia, record {
-          image_is = first-is host.before.files _ _ contents are;
-          image_fits = short;
-          script_is = script-from host order.script (text_by order.script contents) script (text-is host.before.files _ order.script contents are) read;
-        }, (cycle, stop), told)
+    | inr (script, read, same, (cycle, cia, stop, told)) ↦ (
+      first_of contents,
+      script,
+      cia,
+      record {
+        image_is = first-is host.before.files (record { name = order.image; most = ram_size }) (script_files order.script) contents are;
+        image_fits = short;
+        script_is = script-from host order.script (text_by order.script contents) script (text-is host.before.files (record { name = order.image; most = ram_size }) order.script contents are) read;
+      },
+      (cycle, stop),
+      told,
+    )
   ]
 ]
 
@@ -179,10 +185,10 @@ listing-unbuilt host name line (contents, are, comes) = elim (long-or-so (first_
 source-bad : (host : Change HostState) (name line : List ℕ) → ComesTo host (Assemble name) (Refuses BadInput line) → (source : List ℕ) × (place : Place) × IsContent host name source × (assembled source ≡ Err place) × (line ≡ bad_line name place.line place.column)
 source-bad host name line (contents, are, comes) =
     let (same, (place, e, told)) = source-refused name _ BadInput line comes in
-    (first_of contents, place, first-is host.before.files _ _ contents are, e, told)
+    (first_of contents, place, first-is host.before.files (record { name = name; most = 4194304 }) [] contents are, e, told)
 
 -- and for a run its script is, whose image fits
-IsBadRun : Change HostState → RunOrder → List ℕ → Type 0
+abbrev IsBadRun : Change HostState → RunOrder → List ℕ → Type 0
 IsBadRun host order line = (image : List ℕ) × IsContent host order.image image × (length image ≤ 16777216) × ((name : List ℕ) × (place : ScriptPlace) × (order.script ≡ Some name) × IsBadScript host name place.line place.column × (line ≡ bad_line name place.line place.column))
 
 -- the script that is refused is one that is named
@@ -194,7 +200,7 @@ run-bad : (host : Change HostState) (order : RunOrder) (line : List ℕ) → Com
 run-bad host order line (contents, are, comes) = elim (long-or-so (first_of contents) _ BadInput line comes) [
   | inl (long, e) ↦ cc
   | inr (short, e) ↦ elim (bad-or-stop (unwrap_or order.script []) order (first_of contents) (script_of (text_by order.script contents)) BadInput line e) [
-    | inl (place, bad, same, told) ↦ (first_of contents, first-is host.before.files _ _ contents are, short, named-bad host order.script (text_by order.script contents) line place (text-is host.before.files _ order.script contents are) bad told)
+    | inl (place, bad, same, told) ↦ (first_of contents, first-is host.before.files (record { name = order.image; most = ram_size }) (script_files order.script) contents are, short, named-bad host order.script (text_by order.script contents) line place (text-is host.before.files (record { name = order.image; most = ram_size }) order.script contents are) bad told)
     | inr (script, read, other, rest) ↦ cc
   ]
 ]
@@ -222,12 +228,16 @@ run-written order image text output e = elim (cases_lt 16777216 (length image)) 
 -- so it is a text of a run of the image's content and the script's
 run-gives-text : (host : Change HostState) (order : RunOrder) (output : Output) (text : List ℕ) → ComesTo host (Run order) (Writes output) → IsOutput output text → (image : List ℕ) × (script : List (ℕ × ℕ)) × IsStart host order image script × SpellsRun (run_by order image script) text
 run-gives-text host order output text (contents, are, gives) is =
-    let (short, (script, read, same)) = run-written order (first_of contents) (text_by order.script contents) output gives in
-    (first_of contents, script, record {
-      image_is = first-is host.before.files _ _ contents are;
-      image_fits = short;
-      script_is = script-from host order.script (text_by order.script contents) script (text-is host.before.files _ order.script contents are) read;
-    }, subst (λ (o : Output). IsOutput o text) same is)
+    let (short, (script, read, same)) = run-written order (first_of contents) (text_by order.script contents) output gives in (
+      first_of contents,
+      script,
+      record {
+        image_is = first-is host.before.files (record { name = order.image; most = ram_size }) (script_files order.script) contents are;
+        image_fits = short;
+        script_is = script-from host order.script (text_by order.script contents) script (text-is host.before.files (record { name = order.image; most = ram_size }) order.script contents are) read;
+      },
+      subst (λ (o : Output). IsOutput o text) same is,
+    )
 
 -- ---- Done and WriteFault, of a run
 

@@ -1,5 +1,5 @@
 -- A script that is read up to one byte past its limit shows what the whole text gives.
-use Rattle.std.proofs.Common.{◌≡◌, ℕ, inl, inr, ◌+◌, ◌<◌, List, length, take, Some, None, Result, Ok, Err, [], IfSome, refl, sym, ap, ◌∙◌, arith}
+use Rattle.std.proofs.Common.{◌≡◌, ℕ, inl, inr, ◌+◌, List, length, take, Some, None, Result, Err, IfSome, refl, sym, ap, ◌∙◌, arith}
 use Rattle.std.proofs.lemmas.Bool.{cases_lt}
 use Rattle.std.proofs.lemmas.List.{take_all, take-take, length-take}
 use Rattle.mw_io.specs.Outside.{HostState, content_of}

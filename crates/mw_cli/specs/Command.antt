@@ -119,6 +119,13 @@ both_asked option word second name =
     then option_map (λ span. record { dump = Some span; script = Some name }) (dump_by option word)
     else None
 
+-- what these words ask for: nothing more, one of the two, or both
+unfoldable pub asked_of : List (List ℕ) → Option Asked
+asked_of [] = Some (record { dump = None; script = None })
+asked_of (option ∷ word ∷ []) = one_asked option word
+asked_of (option ∷ word ∷ second ∷ name ∷ []) = both_asked option word second name
+asked_of words = None
+
 -- a run's order of these words and of what is asked for behind them, if they are in its grammar
 abbrev pub order_by : List ℕ → List ℕ → List ℕ → List ℕ → Asked → Option Order
 order_by verb image option number asked = if bytes_eq verb (codes "run") && (is_name image && bytes_eq option (codes "--cycles")) then option_map (λ n. Run (record { image = image; cycles = n; dump = asked.dump; script = asked.script })) (number_up_to 4000000 number) else None
@@ -130,9 +137,7 @@ file_by verb name = if bytes_eq verb (codes "asm") && is_name name then Some (As
 -- what the words behind the program's name say, if they are in one of the three grammars
 unfoldable pub order_of : List (List ℕ) → Option Order
 order_of (verb ∷ name ∷ []) = file_by verb name
-order_of (verb ∷ image ∷ option ∷ number ∷ []) = order_by verb image option number (record { dump = None; script = None })
-order_of (verb ∷ image ∷ option ∷ number ∷ second ∷ word ∷ []) = option_and_then (order_by verb image option number) (one_asked second word)
-order_of (verb ∷ image ∷ option ∷ number ∷ second ∷ word ∷ third ∷ name ∷ []) = option_and_then (order_by verb image option number) (both_asked second word third name)
+order_of (verb ∷ image ∷ option ∷ number ∷ more) = option_and_then (order_by verb image option number) (asked_of more)
 order_of words = None
 
 -- the files that the words ask for: none where they are no order

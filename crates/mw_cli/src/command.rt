@@ -1,6 +1,6 @@
-ghost use Rattle.std.specs.Prelude.{◌≡◌, ◌+◌, ◌≤◌, map, string_bytes, option_map, IfSome, bytes_eq, decimal};
+ghost use Rattle.std.specs.Prelude.{◌≡◌, ◌+◌, ◌≤◌, map, string_bytes, option_map, option_and_then, IfSome, bytes_eq, decimal};
 ghost use Rattle.mw_bus.specs.Memory.{ram_size};
-ghost use Rattle.mw_cli.specs.Command.{asked_in, order_in, order_of, IsBounded, IsInRam, is_name, number_up_to, span_by, span_of, dump_by, one_asked, both_asked, order_by, file_by};
+ghost use Rattle.mw_cli.specs.Command.{asked_in, order_in, order_of, IsBounded, IsInRam, is_name, number_up_to, span_by, span_of, dump_by, one_asked, both_asked, asked_of, order_by, file_by};
 
 use mw_bus::RAM_SIZE;
 use mw_isa::Span;
@@ -168,18 +168,43 @@ fn both_asked<'a>(option: &str, word: &str, second: &str, name: &'a str) -> Opti
     }
 }
 
+/// What the words behind a run's number of cycles ask for: nothing more, a dump, a script, or a dump and a script.
+#[tactic(auto, unfolding(crate::specs::Command::asked_of))]
+fn asked_of(words: &[String]) -> Option<More<'_>>
+    ensures value { option_map asked_in result ≡ asked_of (map string_bytes words.now) }
+    ensures room { IfSome result IsInRam }
+{
+    match words {
+        [] => Some(More {
+            dump: None,
+            script: None,
+        }),
+        [option, word] => one_asked(option.as_str(), word.as_str()),
+        [option, word, second, name] => both_asked(
+            option.as_str(),
+            word.as_str(),
+            second.as_str(),
+            name.as_str(),
+        ),
+        _ => None,
+    }
+}
+
 /// The run that four words and what is asked for behind them ask for, if the words are in its grammar.
 fn order<'a>(
     verb: &str,
     image: &'a str,
     option: &str,
     digits: &str,
-    more: More<'a>,
+    asked: Option<More<'a>>,
 ) -> Option<Command<'a>>
-    requires { IsInRam more }
-    ensures value { option_map order_in result ≡ order_by verb.now image.now option.now digits.now (asked_in more) }
+    requires { IfSome asked IsInRam }
+    ensures value { option_map order_in result ≡ option_and_then (order_by verb.now image.now option.now digits.now) (option_map asked_in asked.entry) }
     ensures bounded { IfSome result IsBounded }
 {
+    let Some(more) = asked else {
+        return None;
+    };
     if verb == "run" && is_name(image) && option == "--cycles" {
         match number_up_to(MOST_CYCLES, digits) {
             Some(cycles) => Some(Command::Run(RunCommand {
@@ -216,45 +241,13 @@ pub fn read_words(words: &[String]) -> Option<Command<'_>>
 {
     match words {
         [verb, name] => file_order(verb.as_str(), name.as_str()),
-        [verb, image, option, digits] => order(
+        [verb, image, option, digits, more @ ..] => order(
             verb.as_str(),
             image.as_str(),
             option.as_str(),
             digits.as_str(),
-            More {
-                dump: None,
-                script: None,
-            },
+            asked_of(more),
         ),
-        [verb, image, option, digits, second, word] => {
-            match one_asked(second.as_str(), word.as_str()) {
-                Some(more) => order(
-                    verb.as_str(),
-                    image.as_str(),
-                    option.as_str(),
-                    digits.as_str(),
-                    more,
-                ),
-                None => None,
-            }
-        }
-        [verb, image, option, digits, second, word, third, name] => {
-            match both_asked(
-                second.as_str(),
-                word.as_str(),
-                third.as_str(),
-                name.as_str(),
-            ) {
-                Some(more) => order(
-                    verb.as_str(),
-                    image.as_str(),
-                    option.as_str(),
-                    digits.as_str(),
-                    more,
-                ),
-                None => None,
-            }
-        }
         _ => None,
     }
 }

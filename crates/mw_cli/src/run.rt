@@ -1,4 +1,4 @@
-ghost use Rattle.std.specs.Prelude.{◌≡◌, ◌≤◌, length, IfOk, IfErr, IsTrue};
+ghost use Rattle.std.specs.Prelude.{◌≡◌, ◌+◌, ◌≤◌, length, IfOk, IfErr, IfSome, IsTrue};
 ghost use Rattle.mw_bus.specs.Memory.{ram_size};
 ghost use Rattle.mw_cli.specs.Command.{Run, run_in, files_of, IsInRam};
 ghost use Rattle.mw_cli.specs.Headline.{run_of, SpellsRun};
