@@ -20,6 +20,8 @@ mod operands;
 #[cfg(test)]
 mod prefix;
 #[cfg(test)]
+mod script;
+#[cfg(test)]
 mod soc;
 #[cfg(test)]
 mod tables;

@@ -1,6 +1,7 @@
 ghost use Rattle.std.specs.Prelude.{◌≡◌};
 
 use mw_soc::Devices;
+use mw_uart::Script;
 use std::process::Abort;
 use std::test::Fail;
 
@@ -20,7 +21,7 @@ fn see(rt: &impl Abort, devices: &mut Devices, cycle: u64, want: u32)
 
 #[test]
 fn decrementer_counts_down(rt: HostRuntime) -> Result<(), Fail> {
-    let mut devices = Devices::new(rt.alloc(), ROOM)?;
+    let mut devices = Devices::new(rt.alloc(), Script::new(rt.alloc()), ROOM)?;
     see(&rt, &mut devices, 0, 0x7fff_ffff);
     see(&rt, &mut devices, 20000, 0x7fff_b1df);
     see(&rt, &mut devices, 0x7fff_ffff, 0);
@@ -58,7 +59,7 @@ static LOADS: [Load; 18] = [
 
 #[test]
 fn loads_go_by_the_map(rt: HostRuntime) -> Result<(), Fail> {
-    let mut devices = Devices::new(rt.alloc(), 0)?;
+    let mut devices = Devices::new(rt.alloc(), Script::new(rt.alloc()), 0)?;
     for Load(at, width, want) in &LOADS {
         assert!(rt; 1 <= *width && *at % 8 + u64::from(*width) <= 8);
         assert_eq!(rt; devices.load(*at, *width), *want, "{width} at {at:x}");
@@ -68,7 +69,7 @@ fn loads_go_by_the_map(rt: HostRuntime) -> Result<(), Fail> {
 
 #[test]
 fn stores_reach_the_uart_alone(rt: HostRuntime) -> Result<(), Fail> {
-    let mut devices = Devices::new(rt.alloc(), ROOM)?;
+    let mut devices = Devices::new(rt.alloc(), Script::new(rt.alloc()), ROOM)?;
     devices.store(0xC000_0000, &[0x40]);
     devices.store(0xC000_3000, &[0x40]);
     devices.store(0xC000_2001, &[0x40]);

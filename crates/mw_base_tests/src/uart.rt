@@ -1,6 +1,6 @@
 ghost use Rattle.std.specs.Prelude.{◌≡◌};
 
-use mw_uart::Uart;
+use mw_uart::{Script, Uart};
 use std::process::Abort;
 use std::test::Fail;
 
@@ -42,7 +42,7 @@ static ACCESSES: [Access; 17] = [
 
 #[test]
 fn registers_are_loaded_and_stored(rt: HostRuntime) -> Result<(), Fail> {
-    let mut uart = Uart::new(rt.alloc(), ROOM)?;
+    let mut uart = Uart::new(rt.alloc(), Script::new(rt.alloc()), ROOM)?;
     for Access(store_at, bytes, load_at, width, want) in &ACCESSES {
         assert!(rt; 1 <= bytes.len() && *store_at % 8 + bytes.len() as u32 <= 8);
         uart.store(*store_at, bytes);
@@ -54,7 +54,7 @@ fn registers_are_loaded_and_stored(rt: HostRuntime) -> Result<(), Fail> {
 
 #[test]
 fn seventeen_bytes_keep_sixteen(rt: HostRuntime) -> Result<(), Fail> {
-    let mut uart = Uart::new(rt.alloc(), ROOM)?;
+    let mut uart = Uart::new(rt.alloc(), Script::new(rt.alloc()), ROOM)?;
     for byte in 1..=17 {
         uart.store(0, &[byte]);
     }
@@ -71,7 +71,7 @@ fn seventeen_bytes_keep_sixteen(rt: HostRuntime) -> Result<(), Fail> {
 
 #[test]
 fn clock_divider_moves_the_later_byte(rt: HostRuntime) -> Result<(), Fail> {
-    let mut uart = Uart::new(rt.alloc(), ROOM)?;
+    let mut uart = Uart::new(rt.alloc(), Script::new(rt.alloc()), ROOM)?;
     bring(&rt, &mut uart, 2);
     uart.store(0, &[0x41]);
     uart.store(0, &[0x42]);
@@ -90,8 +90,8 @@ fn clock_divider_moves_the_later_byte(rt: HostRuntime) -> Result<(), Fail> {
 
 #[test]
 fn one_step_is_many(rt: HostRuntime) -> Result<(), Fail> {
-    let mut one = Uart::new(rt.alloc(), ROOM)?;
-    let mut many = Uart::new(rt.alloc(), ROOM)?;
+    let mut one = Uart::new(rt.alloc(), Script::new(rt.alloc()), ROOM)?;
+    let mut many = Uart::new(rt.alloc(), Script::new(rt.alloc()), ROOM)?;
     for byte in 1..=3 {
         one.store(0, &[byte]);
         many.store(0, &[byte]);
@@ -108,7 +108,7 @@ fn one_step_is_many(rt: HostRuntime) -> Result<(), Fail> {
 
 #[test]
 fn line_follows_the_send_queue(rt: HostRuntime) -> Result<(), Fail> {
-    let mut uart = Uart::new(rt.alloc(), ROOM)?;
+    let mut uart = Uart::new(rt.alloc(), Script::new(rt.alloc()), ROOM)?;
     assert!(rt; !uart.line());
     uart.store(0x20, &[1]);
     assert!(rt; !uart.line());

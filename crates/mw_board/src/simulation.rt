@@ -3,7 +3,6 @@ ghost use Rattle.std.specs.List.{range_with_len};
 ghost use Rattle.mw_bus.specs.Memory.{ram_size};
 ghost use Rattle.mw_soc.specs.Devices.{cycle_of};
 ghost use Rattle.mw_isa.specs.State.{seen, brought};
-ghost use Rattle.mw_isa.specs.Start.{boot_of};
 ghost use Rattle.mw_isa.specs.Replay.{cycles_of};
 ghost use Rattle.mw_isa.specs.Runs.{Runs};
 ghost use Rattle.mw_isa.specs.Unbuilt.{first_unbuilt};
@@ -15,6 +14,7 @@ use mw_bus::{RAM_SIZE, Ram};
 use mw_isa::{End, Events, State};
 use mw_soc::Devices;
 use mw_step::Prepared;
+use mw_uart::Script;
 use std::alloc::Global;
 
 /// The run that reached its number of cycles with these events and in this state, whose devices are brought to that
@@ -35,14 +35,15 @@ fn stopped(events: Events, mut state: State, n: u64) -> Run
 }
 
 /// Runs an image for `n` cycles, an instruction a cycle, from the machine's start with the image at real
-/// address 0. `Err` says why there is no run: the image doesn't fit RAM, an instruction that isn't built
-/// is reached below cycle `n`, or memory is wanting.
-pub fn simulate(alloc: Global, image: &[u8], n: u64) -> Result<Run, RunFault>
+/// address 0; the bytes of the script arrive at the UART, each at its cycle. `Err` says why there is no run:
+/// the image doesn't fit RAM, an instruction that isn't built is reached below cycle `n`, or memory is
+/// wanting.
+pub fn simulate(alloc: Global, image: &[u8], script: &Script, n: u64) -> Result<Run, RunFault>
     requires { n ≤ 4000000 }
-    ensures runs { IfOk result (λ run. Runs (boot_of image.now) n run.events run.end (seen run.state)) }
+    ensures runs { IfOk result (λ run. Runs (record { image = image.now; script = script.now }) n run.events run.end (seen run.state)) }
     ensures each_cycle { IfOk result (λ run. cycles_of run.events ≡ range_with_len 0 n) }
-    ensures built { OnOk result (first_unbuilt (boot_of image.now) n ≡ None) }
-    ensures cause { IfErr result (HasCause (boot_of image.now) n) }
+    ensures built { OnOk result (first_unbuilt (record { image = image.now; script = script.now }) n ≡ None) }
+    ensures cause { IfErr result (HasCause (record { image = image.now; script = script.now }) n) }
     ensures too_large { (result ≡ Err RunFault.ImageTooLarge) ↔ (ram_size < length image.now) }
 {
     if image.len() > RAM_SIZE {
@@ -51,7 +52,10 @@ pub fn simulate(alloc: Global, image: &[u8], n: u64) -> Result<Run, RunFault>
     let Ok(ram) = Ram::new(alloc, image) else {
         return Err(RunFault::NoMemory);
     };
-    let Ok(devices) = Devices::new(alloc, n / 160) else {
+    let Ok(script) = script.copy() else {
+        return Err(RunFault::NoMemory);
+    };
+    let Ok(devices) = Devices::new(alloc, script, n / 160) else {
         return Err(RunFault::NoMemory);
     };
     let mut state = State::new(ram, devices);

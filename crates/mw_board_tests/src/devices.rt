@@ -1,4 +1,5 @@
 use mw_board::simulate;
+use mw_uart::Script;
 use std::alloc::{AllocError as NoMemory, Global};
 use std::test::Fail;
 
@@ -64,7 +65,7 @@ fn programs_of_devices(rt: HostRuntime) -> Result<(), Fail> {
     for Program(words, base, n, content, sent) in &PROGRAMS {
         assert!(rt; *n <= 40000);
         let image = image_of(alloc, *words, *base)?;
-        match simulate(alloc, image.as_slice(), *n) {
+        match simulate(alloc, image.as_slice(), &Script::new(alloc), *n) {
             Ok(run) => {
                 assert_eq!(rt; run.state.regs.gpr[6], *content, "r6 of {words:?} at {n}");
                 assert_eq!(rt;

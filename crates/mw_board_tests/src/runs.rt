@@ -1,5 +1,6 @@
 use mw_board::{RunFault, simulate};
 use mw_isa::{End, Event};
+use mw_uart::Script;
 use std::alloc::{AllocError as NoMemory, Global};
 use std::test::Fail;
 
@@ -27,7 +28,7 @@ fn a_run_has_an_event_a_cycle(rt: HostRuntime) -> Result<(), Fail> {
     let alloc = rt.alloc();
     // addi r3,0,5; b .
     let image = [0x05, 0x00, 0x60, 0x38, 0x00, 0x00, 0x00, 0x48];
-    match simulate(alloc, &image, 20000) {
+    match simulate(alloc, &image, &Script::new(alloc), 20000) {
         Ok(run) => {
             let events = run.events.as_slice();
             assert_eq!(rt; events.len(), 20000);
@@ -40,7 +41,7 @@ fn a_run_has_an_event_a_cycle(rt: HostRuntime) -> Result<(), Fail> {
         }
         Err(fault) => panic!(rt; "{fault:?}"),
     }
-    match simulate(alloc, &image, 0) {
+    match simulate(alloc, &image, &Script::new(alloc), 0) {
         Ok(run) => {
             assert_eq!(rt; run.events.as_slice().len(), 0);
             assert_eq!(rt; [run.state.regs.gpr[3], run.state.regs.cia], [0, 0]);
@@ -84,17 +85,17 @@ fn what_is_not_built_is_refused(rt: HostRuntime) -> Result<(), Fail> {
     for Refused(words, n, want) in &REFUSED {
         assert!(rt; *n <= 9);
         let image = image_of(alloc, *words)?;
-        match simulate(alloc, image.as_slice(), *n) {
+        match simulate(alloc, image.as_slice(), &Script::new(alloc), *n) {
             Ok(_) => panic!(rt; "{words:?} runs"),
             Err(fault) => assert_eq!(rt; fault, *want, "{words:?}"),
         }
     }
     let zeros = vec![in alloc; 0; 16777217]?;
-    match simulate(alloc, zeros.as_slice(), 0) {
+    match simulate(alloc, zeros.as_slice(), &Script::new(alloc), 0) {
         Ok(_) => panic!(rt; "too large an image runs"),
         Err(fault) => assert_eq!(rt; fault, RunFault::ImageTooLarge),
     }
-    assert!(rt; simulate(alloc, &zeros.as_slice()[1..], 0).is_ok());
+    assert!(rt; simulate(alloc, &zeros.as_slice()[1..], &Script::new(alloc), 0).is_ok());
     Ok(())
 }
 
@@ -128,7 +129,7 @@ fn programs_leave_their_registers(rt: HostRuntime) -> Result<(), Fail> {
     for Program(words, n, cia, contents) in &PROGRAMS {
         assert!(rt; *n <= 9);
         let image = image_of(alloc, *words)?;
-        match simulate(alloc, image.as_slice(), *n) {
+        match simulate(alloc, image.as_slice(), &Script::new(alloc), *n) {
             Ok(run) => {
                 assert_eq!(rt; run.state.regs.cia, *cia, "{words:?}");
                 for (number, content) in *contents {

@@ -1,6 +1,7 @@
 ghost use Rattle.std.specs.Prelude.{◌<◌, ◌^◌};
 
 use mw_board::{Run, RunFault, simulate};
+use mw_uart::Script;
 use std::alloc::{AllocError as NoMemory, Global};
 use std::test::Fail;
 
@@ -126,7 +127,7 @@ fn each_row_of_storage_runs(rt: HostRuntime) -> Result<(), Fail> {
     for row in &ROWS {
         let [first, second, third] = BEFORE;
         let image = image_of(alloc, &[first, second, third, row.word, 0x4800_0000])?;
-        match simulate(alloc, image.as_slice(), 6) {
+        match simulate(alloc, image.as_slice(), &Script::new(alloc), 6) {
             Ok(run) => {
                 let word = row.word;
                 let regs = &run.state.regs;
@@ -190,7 +191,7 @@ fn programs_of_accesses(rt: HostRuntime) -> Result<(), Fail> {
     for Program(words, n, cr, content, at, want) in &PROGRAMS {
         assert!(rt; *n <= 9 && *at < 9999);
         let image = image_of(alloc, *words)?;
-        match simulate(alloc, image.as_slice(), *n) {
+        match simulate(alloc, image.as_slice(), &Script::new(alloc), *n) {
             Ok(run) => {
                 assert_eq!(rt; run.state.regs.cr, *cr, "CR of {words:?}");
                 assert_eq!(rt; run.state.regs.gpr[6], *content, "r6 of {words:?}");
@@ -244,7 +245,7 @@ fn accesses_that_are_built(rt: HostRuntime) -> Result<(), Fail> {
         let image = image_of(alloc, *words)?;
         let n = words.len() as u64;
         assert!(rt; 1 <= n && n <= 3);
-        match simulate(alloc, image.as_slice(), n) {
+        match simulate(alloc, image.as_slice(), &Script::new(alloc), n) {
             Ok(_) => assert!(rt; *built, "{words:?} runs"),
             Err(fault) => {
                 let at = n - 1;

@@ -4,6 +4,7 @@ use mw_bus::Ram;
 use mw_isa::{End, Event, Regs, Span, State, Vector};
 use mw_soc::Devices;
 use mw_trace::print;
+use mw_uart::Script;
 use std::alloc::{AllocError as NoMemory, Global};
 use std::process::Abort;
 use std::test::Fail;
@@ -194,7 +195,10 @@ m 0000000000fffffe 0000
 fn start(alloc: Global, image: &[u8]) -> Result<State, NoMemory>
     requires { length image.now ≤ 16777216 }
 {
-    Ok(State::new(Ram::new(alloc, image)?, Devices::new(alloc, ROOM)?))
+    Ok(State::new(
+        Ram::new(alloc, image)?,
+        Devices::new(alloc, Script::new(alloc), ROOM)?,
+    ))
 }
 
 /// Brings the devices to a cycle.
@@ -207,7 +211,7 @@ fn bring(rt: &impl Abort, devices: &mut Devices, cycle: u64)
 
 /// Devices at a cycle, whose UART was given bytes at cycle 0.
 fn given(rt: &impl Abort, alloc: Global, bytes: &[u8], cycle: u64) -> Result<Devices, NoMemory> {
-    let mut devices = Devices::new(alloc, ROOM)?;
+    let mut devices = Devices::new(alloc, Script::new(alloc), ROOM)?;
     for byte in bytes {
         devices.store(0xC000_2000, &[*byte]);
     }

@@ -1,5 +1,5 @@
 -- Why an order was refused, from the part that refused it, and what its status says.
-use Rattle.std.proofs.Common.{◌≡◌, ℕ, List, Option, Some, IsSomeAnd, inl, inr, refl, sym, subst}
+use Rattle.std.proofs.Common.{◌≡◌, ℕ, Option, Some, IsSomeAnd, inl, inr, refl, sym, subst}
 use Rattle.mw_io.specs.Outside.{HostState, SinkState, Counts}
 use Rattle.mw_cli.specs.declared.status.Status.TheVariants.{Done, ReadFault, WriteFault, NoMemory}
 use Rattle.mw_cli.specs.declared.refusal.Refusal.{Refusal}
@@ -7,8 +7,8 @@ use Rattle.mw_cli.specs.declared.refusal.Refusal.TheVariants.{Unreadable, Unwrit
 use Rattle.mw_cli.specs.Command.{Order, order_of}
 use Rattle.mw_cli.specs.Outside.{Change, change, TookNothing, TookUnlessFault}
 use Rattle.mw_cli.specs.Numbers.{status_of}
-use Rattle.mw_cli.specs.Answers.{Call, Gives, OnOrder, Says, Faults}
-use Rattle.mw_cli.specs.Stages.{line_of, GivesNothing, IsWriteRefusal, HasCause}
+use Rattle.mw_cli.specs.Answers.{Call, OnOrder, Says, Faults}
+use Rattle.mw_cli.specs.Stages.{line_of, GivesNothing, HasCause}
 use Rattle.mw_cli.proofs.VerdictLemmas.{calm}
 
 -- an order that gives nothing to write

@@ -5,7 +5,7 @@ use Rattle.std.specs.Str.Parse.{digits_value, ParsesUnsigned}
 use Rattle.std.proofs.lemmas.Fmt.{parse-decimal, decimal_is_IsNumeral}
 use Rattle.std.proofs.lemmas.Slice.Eq.{bytes_eq-Decides}
 use Rattle.std.proofs.lemmas.Bool.{false≢true, leb-true, le-leb}
-use Rattle.mw_cli.specs.Command.{order_of, number_up_to}
+use Rattle.mw_cli.specs.Command.{order_of, asked_of, number_up_to}
 
 -- a word is a number's digits
 written : (n : ℕ) (word : List ℕ) → bytes_eq (decimal n) word ≡ true → decimal n ≡ word
@@ -59,14 +59,21 @@ number-great most n word r fits p is great = none_written most word (λ m small 
     let same : n ≡ m = cc in
     omega arith)
 
--- words that aren't two, four or six are no order
-pub no_order : (words : List (List ℕ)) → (length words ≡ 2 → ⊥) → (length words ≡ 4 → ⊥) → (length words ≡ 6 → ⊥) → order_of words ≡ None
+-- words that are neither two nor four or more are no order
+pub no_order : (words : List (List ℕ)) → (length words ≡ 2 → ⊥) → length words < 4 → order_of words ≡ None
 unfolding order_of
-no_order [] two four six = refl
-no_order (a ∷ []) two four six = refl
-no_order (a ∷ b ∷ []) two four six = absurd (two refl)
-no_order (a ∷ b ∷ c ∷ []) two four six = refl
-no_order (a ∷ b ∷ c ∷ d ∷ []) two four six = absurd (four refl)
-no_order (a ∷ b ∷ c ∷ d ∷ e ∷ []) two four six = refl
-no_order (a ∷ b ∷ c ∷ d ∷ e ∷ f ∷ []) two four six = absurd (six refl)
-no_order (a ∷ b ∷ c ∷ d ∷ e ∷ f ∷ g ∷ others) two four six = refl
+no_order [] two few = refl
+no_order (a ∷ []) two few = refl
+no_order (a ∷ b ∷ []) two few = absurd (two refl)
+no_order (a ∷ b ∷ c ∷ []) two few = refl
+no_order (a ∷ b ∷ c ∷ d ∷ others) two few = absurd (omega arith)
+
+-- words that aren't none, two or four ask for nothing
+pub none_asked : (words : List (List ℕ)) → (length words ≡ 0 → ⊥) → (length words ≡ 2 → ⊥) → (length words ≡ 4 → ⊥) → asked_of words ≡ None
+unfolding asked_of
+none_asked [] none two four = absurd (none refl)
+none_asked (a ∷ []) none two four = refl
+none_asked (a ∷ b ∷ []) none two four = absurd (two refl)
+none_asked (a ∷ b ∷ c ∷ []) none two four = refl
+none_asked (a ∷ b ∷ c ∷ d ∷ []) none two four = absurd (four refl)
+none_asked (a ∷ b ∷ c ∷ d ∷ e ∷ others) none two four = refl

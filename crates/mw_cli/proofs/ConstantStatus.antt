@@ -1,17 +1,17 @@
 -- No refusal can be answered at every call: the contract itself excludes a program that always gives one of them.
-use Rattle.std.proofs.Common.{◌≡◌, ℕ, ◌≤◌, List, length, Option, Some, None, Ok, IfSome, ap, subst, ◌∙◌, arith}
+use Rattle.std.proofs.Common.{◌≡◌, ℕ, ◌≤◌, List, [], length, Option, Some, None, Result, Ok, IfSome, ap, ap₂, subst, ◌∙◌, arith}
 use Rattle.mw_io.specs.Outside.{HostState, Rose, content_of}
 use Rattle.mw_asm.specs.Assembled.{assembled}
-use Rattle.mw_isa.specs.Start.{boot_of}
+use Rattle.mw_uart.specs.Script.{Place as ScriptPlace, script_of}
 use Rattle.mw_isa.specs.Unbuilt.{first_unbuilt}
 use Rattle.mw_cli.specs.declared.status.Status.TheVariants.{Usage, ReadFault, WriteFault, ImageTooLarge, BadInput, Unbuilt}
 use Rattle.mw_cli.specs.Command.{RunOrder, Order, Run, Assemble, Disassemble, order_of}
 use Rattle.mw_cli.specs.Outside.{Change}
 use Rattle.mw_cli.specs.Answers.{Call, Asks, Answers}
-use Rattle.mw_cli.specs.Stages.{IsContent, IsTooLong}
+use Rattle.mw_cli.specs.Stages.{IsContent, IsTooLong, IsScriptOf}
 use Rattle.mw_cli.proofs.FileLemmas.{Files}
 use Rattle.mw_cli.proofs.AnswerLemmas.{some_or_none}
-use Rattle.mw_cli.proofs.EachStatus.{usage, read-fault, write-fault, too-large, too-large-disassembly, unbuilt, bad-input, bad-run, bad-disassembly}
+use Rattle.mw_cli.proofs.EachStatus.{usage, read-fault, write-fault, too-large, too-large-disassembly, unbuilt, bad-input, bad-run, bad-disassembly, script_text}
 
 -- Usage isn't answered where the words are an order
 pub never-usage : (call : Call) (order : Order) → order_of call.words ≡ Some order → Answers call Usage → ⊥
@@ -29,6 +29,15 @@ never-write-fault call calm a = calm (write-fault call a)
 told-content : (host : Change HostState) (name bytes : List ℕ) (told : List ℕ → Option (List ℕ)) → host.before.files ≡ Some told → IsContent host name bytes → bytes ≡ content_of told name
 told-content host name bytes told files is = subst (λ (o : Files). IfSome o (λ t. bytes ≡ content_of t name)) files is
 
+-- the script of a run over a host that tells its files
+ok-once : (r : Result (List (ℕ × ℕ)) ScriptPlace) (s t : List (ℕ × ℕ)) → r ≡ Ok s → r ≡ Ok t → s ≡ t
+ok-once r s t a b = cc
+
+told-script : (host : Change HostState) (named : Option (List ℕ)) (one other : List (ℕ × ℕ)) (told : List ℕ → Option (List ℕ)) → host.before.files ≡ Some told → IsScriptOf host named one → script_of (script_text told named) ≡ Ok other → one ≡ other
+told-script host None one other told files is read = ok-once (script_of []) one other is read
+told-script host (Some name) one other told files (text, content, is) read =
+    ok-once (script_of text) one other is (ap script_of (told-content host name text told files content) ∙ read)
+
 -- a file that fits isn't too long
 not-long : (host : Change HostState) (name : List ℕ) (told : List ℕ → Option (List ℕ)) → host.before.files ≡ Some told → length (content_of told name) ≤ 16777216 → IsTooLong host name → ⊥
 not-long host name told files short (image, is, long) =
@@ -43,11 +52,20 @@ never-too-large call order told asks short a = not-long call.host order.image to
 pub never-too-large-disassembly : (call : Call) (image : List ℕ) (told : List ℕ → Option (List ℕ)) → Asks call (Disassemble image) told → length (content_of told image) ≤ 16777216 → Answers call ImageTooLarge → ⊥
 never-too-large-disassembly call image told asks short a = not-long call.host image told asks.1 short (too-large-disassembly call image asks.0 a)
 
--- BadInput isn't answered where the words ask for a run
-pub never-bad-run : (call : Call) (order : RunOrder) → order_of call.words ≡ Some (Run order) → Answers call BadInput → ⊥
-never-bad-run call order asked a = bad-run call order asked a
+-- BadInput isn't answered where the words ask for a run without a script
+pub never-bad-run : (call : Call) (order : RunOrder) → order_of call.words ≡ Some (Run order) → order.script ≡ None → Answers call BadInput → ⊥
+never-bad-run call order asked none a = let (name, place, named, bad) = bad-run call order asked a in cc
 
--- or for a disassembly
+-- nor where its script is read
+pub never-bad-script : (call : Call) (order : RunOrder) (told : List ℕ → Option (List ℕ)) (name : List ℕ) (script : List (ℕ × ℕ)) → Asks call (Run order) told → order.script ≡ Some name → script_of (content_of told name) ≡ Ok script → Answers call BadInput → ⊥
+never-bad-script call order told name script asks named ok a =
+    let (other, place, same, (text, content, bad)) = bad-run call order asks.0 a in
+    let one : other ≡ name = cc in
+    let is : text ≡ content_of told name = told-content call.host other text told asks.1 content ∙ ap (content_of told) one in
+    let read : script_of text ≡ Ok script = ap script_of is ∙ ok in
+    cc
+
+-- or where they ask for a disassembly
 pub never-bad-disassembly : (call : Call) (image : List ℕ) → order_of call.words ≡ Some (Disassemble image) → Answers call BadInput → ⊥
 never-bad-disassembly call image asked a = bad-disassembly call image asked a
 
@@ -59,8 +77,10 @@ never-bad-input call name told bytes asks ok a =
     cc
 
 -- Unbuilt isn't answered where all that a run reaches is built
-pub never-unbuilt : (call : Call) (order : RunOrder) (told : List ℕ → Option (List ℕ)) → Asks call (Run order) told → first_unbuilt (boot_of (content_of told order.image)) order.cycles ≡ None → Answers call Unbuilt → ⊥
-never-unbuilt call order told asks built a =
-    let (image, cia, content, short, (cycle, stop)) = unbuilt call order asks.0 a in
-    let same : first_unbuilt (boot_of image) order.cycles ≡ None = ap (λ (bytes : List ℕ). first_unbuilt (boot_of bytes) order.cycles) (told-content call.host order.image image told asks.1 content) ∙ built in
+pub never-unbuilt : (call : Call) (order : RunOrder) (told : List ℕ → Option (List ℕ)) (script : List (ℕ × ℕ)) → Asks call (Run order) told → script_of (script_text told order.script) ≡ Ok script → first_unbuilt (record { image = content_of told order.image; script = script }) order.cycles ≡ None → Answers call Unbuilt → ⊥
+never-unbuilt call order told script asks read built a =
+    let (image, other, cia, start, (cycle, stop)) = unbuilt call order asks.0 a in
+    let bytes : image ≡ content_of told order.image = told-content call.host order.image image told asks.1 start.image_is in
+    let pairs : other ≡ script = told-script call.host order.script other script told asks.1 start.script_is read in
+    let same : first_unbuilt (record { image = image; script = other }) order.cycles ≡ None = ap₂ (λ (i : List ℕ) (s : List (ℕ × ℕ)). first_unbuilt (record { image = i; script = s }) order.cycles) bytes pairs ∙ built in
     cc

@@ -1,22 +1,24 @@
 -- What the answers say of each status by itself, for any order and for a run, a source and a disassembly.
-use Rattle.std.proofs.Common.{◌≡◌, ℕ, ◌<◌, ◌≤◌, ◌⊎◌, inl, inr, List, [], ◌∷◌, length, Option, Some, None, Result, Ok, Err, IfSome, IsSomeAnd, IsTrue, option_map, slice_get, refl, sym, ap, ◌∙◌, subst, arith}
+use Rattle.std.proofs.Common.{◌≡◌, ℕ, ◌<◌, ◌≤◌, ◌⊎◌, inl, inr, List, [], ◌∷◌, length, Option, Some, None, Result, Ok, Err, IfSome, IsSomeAnd, IsTrue, option_map, slice_get, unwrap_or, refl, sym, ap, ◌∙◌, subst, arith}
 use Rattle.std.proofs.lemmas.Bool.{cases_lt}
 use Rattle.mw_io.specs.Outside.{HostState, Counts, Rose, content_of}
-use Rattle.mw_isa.specs.Start.{boot_of}
+use Rattle.mw_bus.specs.Memory.{ram_size}
+use Rattle.mw_uart.specs.Script.{Place as ScriptPlace, script_of}
+use Rattle.mw_uart.proofs.Laws.{script_of-empty}
 use Rattle.mw_isa.specs.Unbuilt.{first_unbuilt}
 use Rattle.mw_asm.specs.declared.fault.Place.{Place}
 use Rattle.mw_asm.specs.Assembled.{assembled}
 use Rattle.mw_asm.specs.Disassembly.{disassembly}
 use Rattle.mw_cli.specs.declared.status.Status.{Status}
 use Rattle.mw_cli.specs.declared.status.Status.TheVariants.{Done, Usage, ReadFault, WriteFault, ImageTooLarge, BadInput, NoMemory, Unbuilt}
-use Rattle.mw_cli.specs.Command.{RunOrder, Order, Run, Assemble, Disassemble, files_of, order_of}
+use Rattle.mw_cli.specs.Command.{Wanted, RunOrder, Order, Run, Assemble, Disassemble, files_of, script_files, order_of}
 use Rattle.mw_cli.specs.Headline.{AskedRun, SpellsRun}
-use Rattle.mw_cli.specs.Verdict.{Output, TextOf, Bytes, IsOutput, Verdict, Writes, Refuses, status_by, first_of, run_by, verdict_on, unless_too_large, unless_unbuilt, unless_bad, too_large_line, unbuilt_line, bad_line}
-use Rattle.mw_cli.specs.Outside.{Change, TookNothing, Took, TookFront}
-use Rattle.mw_cli.specs.Answers.{Call, ComesTo, Written, CutShort, OnOrder, Refused, Asks, IsUnanswered, Answers}
-use Rattle.mw_cli.specs.Stages.{IsContent, IsTooLong, ReachesUnbuilt}
+use Rattle.mw_cli.specs.Verdict.{Output, TextOf, Bytes, IsOutput, Verdict, Writes, Refuses, status_by, first_of, second_of, text_by, run_by, verdict_on, verdict_by, with_script, unless_too_large, unless_unbuilt, unless_bad, too_large_line, unbuilt_line, bad_line}
+use Rattle.mw_cli.specs.Outside.{Change, contents_of, TookNothing, Took, TookFront}
+use Rattle.mw_cli.specs.Answers.{Call, ComesTo, Written, CutShort, OnOrder, Refused, Asks, IsUnanswered, Answers, verdict_with}
+use Rattle.mw_cli.specs.Stages.{IsContent, IsTooLong, IsStart, IsBadScript, ReachesUnbuilt}
 use Rattle.mw_cli.proofs.FileLemmas.{Files}
-use Rattle.mw_cli.proofs.VerdictLemmas.{fits, too_long}
+use Rattle.mw_cli.proofs.VerdictLemmas.{IsText, fits, too_long, starts, refused, script-from}
 use Rattle.mw_cli.proofs.AnswerLemmas.{at_some}
 
 -- ---- Usage
@@ -87,10 +89,16 @@ always-write-fault call Unbuilt greater a = absurd (risen _ _ _ greater a.faults
 
 -- ---- what an order of each kind comes to
 
--- the first content is that of the one file
-first-is : (files : Files) (name : List ℕ) (contents : List (List ℕ)) → IfSome files (λ told. contents ≡ content_of told name ∷ []) → IfSome files (λ told. first_of contents ≡ content_of told name)
-first-is None name contents are = tt
-first-is (Some told) name contents are = ap first_of are
+-- the first content is that of the first file
+first-is : (files : Files) (first : Wanted) (others : List Wanted) (contents : List (List ℕ)) → IfSome files (λ told. contents ≡ contents_of told (first ∷ others)) → IfSome files (λ told. first_of contents ≡ content_of told first.name)
+first-is None first others contents are = tt
+first-is (Some told) first others contents are = ap first_of are
+
+-- the text of a run's script is that of the second
+text-is : (files : Files) (first : Wanted) (named : Option (List ℕ)) (contents : List (List ℕ)) → IfSome files (λ told. contents ≡ contents_of told (first ∷ script_files named)) → IsText files named (text_by named contents)
+text-is files first None contents are = refl
+text-is None first (Some name) contents are = tt
+text-is (Some told) first (Some name) contents are = ap second_of are
 
 -- a verdict that is refused for length shows the length, or is refused so without it
 long-or-so : (image : List ℕ) (verdict : Verdict) (status : Status) (line : List ℕ) → unless_too_large image verdict ≡ Refuses status line → ((16777216 < length image) × (ImageTooLarge ≡ status)) ⊎ ((length image ≤ 16777216) × (verdict ≡ Refuses status line))
@@ -104,17 +112,35 @@ run-stops-at : (o : Option (ℕ × ℕ)) (output : Output) (status : Status) (li
 run-stops-at None output status line e = cc
 run-stops-at (Some (cycle, cia)) output status line e = let same : status ≡ Unbuilt = cc in (same, (cycle, cia, refl, cc))
 
+-- a script that is refused at a place, with its line
+abbrev IsBad : List ℕ → Result (List (ℕ × ℕ)) ScriptPlace → Status → List ℕ → Type 0
+IsBad name read status line = (place : ScriptPlace) × (read ≡ Err place) × (status ≡ BadInput) × (line ≡ bad_line name place.line place.column)
+
+-- a script that is read, whose run reaches an instruction that isn't built, with its line
+abbrev IsStop : RunOrder → List ℕ → Result (List (ℕ × ℕ)) ScriptPlace → Status → List ℕ → Type 0
+IsStop order image read status line = (script : List (ℕ × ℕ)) × (read ≡ Ok script) × (status ≡ Unbuilt) × ((cycle : ℕ) × (cia : ℕ) × (first_unbuilt (run_by order image script).boot order.cycles ≡ Some (cycle, cia)) × (line ≡ unbuilt_line cia))
+
+-- behind its image a run is refused for its script, or for an instruction that isn't built
+bad-or-stop : (name : List ℕ) (order : RunOrder) (image : List ℕ) (read : Result (List (ℕ × ℕ)) ScriptPlace) (status : Status) (line : List ℕ) → with_script name read (λ script. verdict_on (run_by order image script)) ≡ Refuses status line → IsBad name read status line ⊎ IsStop order image read status line
+bad-or-stop name order image (Ok script) status line e =
+    let (same, stop) = run-stops-at (first_unbuilt (run_by order image script).boot order.cycles) (TextOf (run_by order image script)) status line e in
+    inr (script, refl, same, stop)
+bad-or-stop name order image (Err place) status line e = let same : status ≡ BadInput = cc in inl (place, refl, same, cc)
+
 -- with ImageTooLarge the image of a run is longer than RAM
 run-too-large : (host : Change HostState) (order : RunOrder) (line : List ℕ) → ComesTo host (Run order) (Refuses ImageTooLarge line) → IsTooLong host order.image
 run-too-large host order line (contents, are, comes) = elim (long-or-so (first_of contents) _ ImageTooLarge line comes) [
-  | inl (long, e) ↦ (first_of contents, first-is host.before.files order.image contents are, long)
-  | inr (short, e) ↦ let (other, rest) = run-stops-at _ _ ImageTooLarge line e in cc
+  | inl (long, e) ↦ (first_of contents, first-is host.before.files (record { name = order.image; most = ram_size }) (script_files order.script) contents are, long)
+  | inr (short, e) ↦ elim (bad-or-stop _ order (first_of contents) _ ImageTooLarge line e) [
+    | inl (place, read, other, rest) ↦ cc
+    | inr (script, read, other, rest) ↦ cc
+  ]
 ]
 
 -- and so is that of a disassembly
 listing-too-large : (host : Change HostState) (name line : List ℕ) → ComesTo host (Disassemble name) (Refuses ImageTooLarge line) → IsTooLong host name
 listing-too-large host name line (contents, are, comes) = elim (long-or-so (first_of contents) _ ImageTooLarge line comes) [
-  | inl (long, e) ↦ (first_of contents, first-is host.before.files name contents are, long)
+  | inl (long, e) ↦ (first_of contents, first-is host.before.files (record { name = name; most = ram_size }) [] contents are, long)
   | inr (short, e) ↦ cc
 ]
 
@@ -128,10 +154,24 @@ source-too-large : (host : Change HostState) (name line : List ℕ) → ComesTo 
 source-too-large host name line (contents, are, comes) = let (other, rest) = source-refused name _ ImageTooLarge line comes in cc
 
 -- with Unbuilt a run reaches an instruction that isn't built, and its address is told
-run-unbuilt : (host : Change HostState) (order : RunOrder) (line : List ℕ) → ComesTo host (Run order) (Refuses Unbuilt line) → (image : List ℕ) × (cia : ℕ) × IsContent host order.image image × (length image ≤ 16777216) × ReachesUnbuilt (boot_of image) order.cycles cia × (line ≡ unbuilt_line cia)
+run-unbuilt : (host : Change HostState) (order : RunOrder) (line : List ℕ) → ComesTo host (Run order) (Refuses Unbuilt line) → (image : List ℕ) × (script : List (ℕ × ℕ)) × (cia : ℕ) × IsStart host order image script × ReachesUnbuilt (record { image = image; script = script }) order.cycles cia × (line ≡ unbuilt_line cia)
 run-unbuilt host order line (contents, are, comes) = elim (long-or-so (first_of contents) _ Unbuilt line comes) [
   | inl (long, e) ↦ cc
-  | inr (short, e) ↦ let (same, (cycle, cia, stop, told)) = run-stops-at _ _ Unbuilt line e in (first_of contents, cia, first-is host.before.files order.image contents are, short, (cycle, stop), told)
+  | inr (short, e) ↦ elim (bad-or-stop _ order (first_of contents) _ Unbuilt line e) [
+    | inl (place, read, other, rest) ↦ cc
+    | inr (script, read, same, (cycle, cia, stop, told)) ↦ (
+      first_of contents,
+      script,
+      cia,
+      record {
+        image_is = first-is host.before.files (record { name = order.image; most = ram_size }) (script_files order.script) contents are;
+        image_fits = short;
+        script_is = script-from host order.script (text_by order.script contents) script (text-is host.before.files (record { name = order.image; most = ram_size }) order.script contents are) read;
+      },
+      (cycle, stop),
+      told,
+    )
+  ]
 ]
 
 -- a source or a disassembly reaches none
@@ -145,14 +185,27 @@ listing-unbuilt host name line (contents, are, comes) = elim (long-or-so (first_
 source-bad : (host : Change HostState) (name line : List ℕ) → ComesTo host (Assemble name) (Refuses BadInput line) → (source : List ℕ) × (place : Place) × IsContent host name source × (assembled source ≡ Err place) × (line ≡ bad_line name place.line place.column)
 source-bad host name line (contents, are, comes) =
     let (same, (place, e, told)) = source-refused name _ BadInput line comes in
-    (first_of contents, place, first-is host.before.files name contents are, e, told)
+    (first_of contents, place, first-is host.before.files (record { name = name; most = 4194304 }) [] contents are, e, told)
 
--- a run or a disassembly is no source
-run-bad : (host : Change HostState) (order : RunOrder) (line : List ℕ) → ComesTo host (Run order) (Refuses BadInput line) → ⊥
+-- and for a run its script is, whose image fits
+abbrev IsBadRun : Change HostState → RunOrder → List ℕ → Type 0
+IsBadRun host order line = (image : List ℕ) × IsContent host order.image image × (length image ≤ 16777216) × ((name : List ℕ) × (place : ScriptPlace) × (order.script ≡ Some name) × IsBadScript host name place.line place.column × (line ≡ bad_line name place.line place.column))
+
+-- the script that is refused is one that is named
+named-bad : (host : Change HostState) (named : Option (List ℕ)) (text line : List ℕ) (place : ScriptPlace) → IsText host.before.files named text → script_of text ≡ Err place → line ≡ bad_line (unwrap_or named []) place.line place.column → (name : List ℕ) × (place : ScriptPlace) × (named ≡ Some name) × IsBadScript host name place.line place.column × (line ≡ bad_line name place.line place.column)
+named-bad host None text line place is bad told = let empty : script_of text ≡ Ok [] = ap script_of is ∙ script_of-empty in cc
+named-bad host (Some name) text line place is bad told = (name, place, refl, (text, is, bad), told)
+
+run-bad : (host : Change HostState) (order : RunOrder) (line : List ℕ) → ComesTo host (Run order) (Refuses BadInput line) → IsBadRun host order line
 run-bad host order line (contents, are, comes) = elim (long-or-so (first_of contents) _ BadInput line comes) [
   | inl (long, e) ↦ cc
-  | inr (short, e) ↦ let (other, rest) = run-stops-at _ _ BadInput line e in cc
+  | inr (short, e) ↦ elim (bad-or-stop (unwrap_or order.script []) order (first_of contents) (script_of (text_by order.script contents)) BadInput line e) [
+    | inl (place, bad, same, told) ↦ (first_of contents, first-is host.before.files (record { name = order.image; most = ram_size }) (script_files order.script) contents are, short, named-bad host order.script (text_by order.script contents) line place (text-is host.before.files (record { name = order.image; most = ram_size }) order.script contents are) bad told)
+    | inr (script, read, other, rest) ↦ cc
+  ]
 ]
+
+-- a disassembly isn't refused so
 
 listing-bad : (host : Change HostState) (name line : List ℕ) → ComesTo host (Disassemble name) (Refuses BadInput line) → ⊥
 listing-bad host name line (contents, are, comes) = elim (long-or-so (first_of contents) _ BadInput line comes) [ inl (long, e) ↦ cc | inr (short, e) ↦ cc ]
@@ -162,33 +215,45 @@ text-written : (o : Option (ℕ × ℕ)) (run : AskedRun) (output : Output) → 
 text-written None run output e = cc
 text-written (Some (cycle, cia)) run output e = cc
 
-run-written : (run : AskedRun) (output : Output) → verdict_on run ≡ Writes output → output ≡ TextOf run
-run-written run output e = elim (cases_lt 16777216 (length run.boot.image)) [
-  | inl long ↦ let refused : Refuses ImageTooLarge too_large_line ≡ Writes output = sym (too_long run.boot.image _ long) ∙ e in cc
-  | inr short ↦ text-written (first_unbuilt run.boot run.cycles) run output (sym (fits run.boot.image _ short) ∙ e)
+script-written : (name : List ℕ) (order : RunOrder) (image : List ℕ) (read : Result (List (ℕ × ℕ)) ScriptPlace) (output : Output) → with_script name read (λ script. verdict_on (run_by order image script)) ≡ Writes output → (script : List (ℕ × ℕ)) × (read ≡ Ok script) × (output ≡ TextOf (run_by order image script))
+script-written name order image (Ok script) output e = (script, refl, text-written (first_unbuilt (run_by order image script).boot order.cycles) (run_by order image script) output e)
+script-written name order image (Err place) output e = cc
+
+run-written : (order : RunOrder) (image text : List ℕ) (output : Output) → verdict_by order image text ≡ Writes output → (length image ≤ 16777216) × ((script : List (ℕ × ℕ)) × (script_of text ≡ Ok script) × (output ≡ TextOf (run_by order image script)))
+run-written order image text output e = elim (cases_lt 16777216 (length image)) [
+  | inl long ↦ let refused : Refuses ImageTooLarge too_large_line ≡ Writes output = sym (too_long image _ long) ∙ e in cc
+  | inr short ↦ (short, script-written (unwrap_or order.script []) order image (script_of text) output (sym (fits image _ short) ∙ e))
 ]
 
--- so it is a text of a run of the image's content
-run-gives-text : (host : Change HostState) (order : RunOrder) (output : Output) (text : List ℕ) → ComesTo host (Run order) (Writes output) → IsOutput output text → (image : List ℕ) × IsContent host order.image image × SpellsRun (run_by order image) text
+-- so it is a text of a run of the image's content and the script's
+run-gives-text : (host : Change HostState) (order : RunOrder) (output : Output) (text : List ℕ) → ComesTo host (Run order) (Writes output) → IsOutput output text → (image : List ℕ) × (script : List (ℕ × ℕ)) × IsStart host order image script × SpellsRun (run_by order image script) text
 run-gives-text host order output text (contents, are, gives) is =
-    let same : output ≡ TextOf (run_by order (first_of contents)) = run-written (run_by order (first_of contents)) output gives in
-    (first_of contents, first-is host.before.files order.image contents are, subst (λ (o : Output). IsOutput o text) same is)
+    let (short, (script, read, same)) = run-written order (first_of contents) (text_by order.script contents) output gives in (
+      first_of contents,
+      script,
+      record {
+        image_is = first-is host.before.files (record { name = order.image; most = ram_size }) (script_files order.script) contents are;
+        image_fits = short;
+        script_is = script-from host order.script (text_by order.script contents) script (text-is host.before.files (record { name = order.image; most = ram_size }) order.script contents are) read;
+      },
+      subst (λ (o : Output). IsOutput o text) same is,
+    )
 
 -- ---- Done and WriteFault, of a run
 
--- with Done out took a text of a run of the image
-pub done-run : (call : Call) (order : RunOrder) → order_of call.words ≡ Some (Run order) → Answers call Done → (image : List ℕ) × (text : List ℕ) × IsContent call.host order.image image × SpellsRun (run_by order image) text × Took call.out text
+-- with Done out took a text of a run of the image and the script
+pub done-run : (call : Call) (order : RunOrder) → order_of call.words ≡ Some (Run order) → Answers call Done → (image : List ℕ) × (script : List (ℕ × ℕ)) × (text : List ℕ) × IsStart call.host order image script × SpellsRun (run_by order image script) text × Took call.out text
 done-run call order asked a =
     let (text, (output, gives, is), took) = at_some (order_of call.words) (Written call.host call.out) (Run order) asked a.says.0 in
-    let (image, content, spells) = run-gives-text call.host order output text gives is in
-    (image, text, content, spells, took)
+    let (image, script, start, spells) = run-gives-text call.host order output text gives is in
+    (image, script, text, start, spells, took)
 
 -- with WriteFault it took a front of such a text
-pub cut-run : (call : Call) (order : RunOrder) → order_of call.words ≡ Some (Run order) → Answers call WriteFault → (image : List ℕ) × (text : List ℕ) × IsContent call.host order.image image × SpellsRun (run_by order image) text × TookFront call.out text
+pub cut-run : (call : Call) (order : RunOrder) → order_of call.words ≡ Some (Run order) → Answers call WriteFault → (image : List ℕ) × (script : List (ℕ × ℕ)) × (text : List ℕ) × IsStart call.host order image script × SpellsRun (run_by order image script) text × TookFront call.out text
 cut-run call order asked a =
     let (text, (output, gives, is), took) = at_some (order_of call.words) (CutShort call.host call.out) (Run order) asked a.says.0 in
-    let (image, content, spells) = run-gives-text call.host order output text gives is in
-    (image, text, content, spells, took)
+    let (image, script, start, spells) = run-gives-text call.host order output text gives is in
+    (image, script, text, start, spells, took)
 
 -- ---- ImageTooLarge, Unbuilt and BadInput come only with their causes
 
@@ -205,11 +270,11 @@ too-large-disassembly call image asked a = let (line, is) = comes call ImageTooL
 pub too-large-source : (call : Call) (source : List ℕ) → order_of call.words ≡ Some (Assemble source) → Answers call ImageTooLarge → ⊥
 too-large-source call source asked a = let (line, is) = comes call ImageTooLarge (Assemble source) asked a.says in source-too-large call.host source line is
 
-pub unbuilt : (call : Call) (order : RunOrder) → order_of call.words ≡ Some (Run order) → Answers call Unbuilt → (image : List ℕ) × (cia : ℕ) × IsContent call.host order.image image × (length image ≤ 16777216) × ReachesUnbuilt (boot_of image) order.cycles cia
+pub unbuilt : (call : Call) (order : RunOrder) → order_of call.words ≡ Some (Run order) → Answers call Unbuilt → (image : List ℕ) × (script : List (ℕ × ℕ)) × (cia : ℕ) × IsStart call.host order image script × ReachesUnbuilt (record { image = image; script = script }) order.cycles cia
 unbuilt call order asked a =
     let (line, is) = comes call Unbuilt (Run order) asked a.says in
-    let (image, cia, content, short, stop, told) = run-unbuilt call.host order line is in
-    (image, cia, content, short, stop)
+    let (image, script, cia, start, stop, told) = run-unbuilt call.host order line is in
+    (image, script, cia, start, stop)
 
 pub unbuilt-disassembly : (call : Call) (image : List ℕ) → order_of call.words ≡ Some (Disassemble image) → Answers call Unbuilt → ⊥
 unbuilt-disassembly call image asked a = let (line, is) = comes call Unbuilt (Disassemble image) asked a.says in listing-unbuilt call.host image line is
@@ -223,8 +288,11 @@ bad-input call name asked a =
     let (source, place, content, bad, told) = source-bad call.host name line is in
     (source, place, content, bad)
 
-pub bad-run : (call : Call) (order : RunOrder) → order_of call.words ≡ Some (Run order) → Answers call BadInput → ⊥
-bad-run call order asked a = let (line, is) = comes call BadInput (Run order) asked a.says in run-bad call.host order line is
+pub bad-run : (call : Call) (order : RunOrder) → order_of call.words ≡ Some (Run order) → Answers call BadInput → (name : List ℕ) × (place : ScriptPlace) × (order.script ≡ Some name) × IsBadScript call.host name place.line place.column
+bad-run call order asked a =
+    let (line, is) = comes call BadInput (Run order) asked a.says in
+    let (image, content, short, (name, place, named, bad, told)) = run-bad call.host order line is in
+    (name, place, named, bad)
 
 pub bad-disassembly : (call : Call) (image : List ℕ) → order_of call.words ≡ Some (Disassemble image) → Answers call BadInput → ⊥
 bad-disassembly call image asked a = let (line, is) = comes call BadInput (Disassemble image) asked a.says in listing-bad call.host image line is
@@ -237,16 +305,37 @@ always-too-large call status order told asks long a = a.exactly (Run order) told
 pub always-too-large-disassembly : (call : Call) (status : Status) (image : List ℕ) (told : List ℕ → Option (List ℕ)) → Asks call (Disassemble image) told → 16777216 < length (content_of told image) → Answers call status → (status ≡ ImageTooLarge) ⊎ IsUnanswered call status
 always-too-large-disassembly call status image told asks long a = a.exactly (Disassemble image) told ImageTooLarge too_large_line asks (too_long (content_of told image) _ long)
 
-pub always-unbuilt : (call : Call) (status : Status) (order : RunOrder) (told : List ℕ → Option (List ℕ)) (cia : ℕ) → Asks call (Run order) told → length (content_of told order.image) ≤ 16777216 → ReachesUnbuilt (boot_of (content_of told order.image)) order.cycles cia → Answers call status → (status ≡ Unbuilt) ⊎ IsUnanswered call status
-always-unbuilt call status order told cia asks short (cycle, stop) a = a.exactly (Run order) told Unbuilt (unbuilt_line cia) asks (fits (content_of told order.image) _ short ∙ ap (λ (o : Option (ℕ × ℕ)). unless_unbuilt o (TextOf (run_by order (content_of told order.image)))) stop)
+-- the text of a run's script in these files
+abbrev pub script_text : (List ℕ → Option (List ℕ)) → Option (List ℕ) → List ℕ
+script_text told None = []
+script_text told (Some name) = content_of told name
+
+-- what the order's files have gives that text
+text-told : (told : List ℕ → Option (List ℕ)) (first : Wanted) (named : Option (List ℕ)) → text_by named (contents_of told (first ∷ script_files named)) ≡ script_text told named
+text-told told first None = refl
+text-told told first (Some name) = refl
+
+-- what a run comes to with these files, whose image fits and whose script is read
+comes-to : (order : RunOrder) (told : List ℕ → Option (List ℕ)) (script : List (ℕ × ℕ)) → length (content_of told order.image) ≤ 16777216 → script_of (script_text told order.script) ≡ Ok script → verdict_with told (Run order) ≡ verdict_on (run_by order (content_of told order.image) script)
+comes-to order told script short read =
+    ap (verdict_by order (content_of told order.image)) (text-told told (record { name = order.image; most = ram_size }) order.script)
+    ∙ starts order (content_of told order.image) (script_text told order.script) script short read
+
+pub always-unbuilt : (call : Call) (status : Status) (order : RunOrder) (told : List ℕ → Option (List ℕ)) (script : List (ℕ × ℕ)) (cia : ℕ) → Asks call (Run order) told → length (content_of told order.image) ≤ 16777216 → script_of (script_text told order.script) ≡ Ok script → ReachesUnbuilt (record { image = content_of told order.image; script = script }) order.cycles cia → Answers call status → (status ≡ Unbuilt) ⊎ IsUnanswered call status
+always-unbuilt call status order told script cia asks short read (cycle, stop) a = a.exactly (Run order) told Unbuilt (unbuilt_line cia) asks (comes-to order told script short read ∙ ap (λ (o : Option (ℕ × ℕ)). unless_unbuilt o (TextOf (run_by order (content_of told order.image) script))) stop)
+
+pub always-bad-script : (call : Call) (status : Status) (order : RunOrder) (told : List ℕ → Option (List ℕ)) (name : List ℕ) (place : ScriptPlace) → Asks call (Run order) told → length (content_of told order.image) ≤ 16777216 → order.script ≡ Some name → script_of (content_of told name) ≡ Err place → Answers call status → (status ≡ BadInput) ⊎ IsUnanswered call status
+always-bad-script call status order told name place asks short named bad a = a.exactly (Run order) told BadInput (bad_line name place.line place.column) asks (
+    ap (verdict_by order (content_of told order.image)) (text-told told (record { name = order.image; most = ram_size }) order.script ∙ ap (script_text told) named)
+    ∙ refused order (content_of told order.image) name (content_of told name) place short named bad)
 
 pub always-bad-input : (call : Call) (status : Status) (source : List ℕ) (told : List ℕ → Option (List ℕ)) (place : Place) → Asks call (Assemble source) told → assembled (content_of told source) ≡ Err place → Answers call status → (status ≡ BadInput) ⊎ IsUnanswered call status
 always-bad-input call status source told place asks bad a = a.exactly (Assemble source) told BadInput (bad_line source place.line place.column) asks (ap (unless_bad source) bad)
 
 -- ---- what is left is done where no call failed, unless memory is wanting
 
-pub complete-run : (call : Call) (status : Status) (order : RunOrder) (told : List ℕ → Option (List ℕ)) → Asks call (Run order) told → length (content_of told order.image) ≤ 16777216 → first_unbuilt (boot_of (content_of told order.image)) order.cycles ≡ None → ¬ (Rose call.host.before.faults call.host.after.faults) → ¬ (Rose call.out.before.faults call.out.after.faults) → Answers call status → (status ≡ Done) ⊎ (status ≡ NoMemory)
-complete-run call status order told asks short built host out a = a.complete (Run order) told (TextOf (run_by order (content_of told order.image))) asks (fits (content_of told order.image) _ short ∙ ap (λ (o : Option (ℕ × ℕ)). unless_unbuilt o (TextOf (run_by order (content_of told order.image)))) built) host out
+pub complete-run : (call : Call) (status : Status) (order : RunOrder) (told : List ℕ → Option (List ℕ)) (script : List (ℕ × ℕ)) → Asks call (Run order) told → length (content_of told order.image) ≤ 16777216 → script_of (script_text told order.script) ≡ Ok script → first_unbuilt (record { image = content_of told order.image; script = script }) order.cycles ≡ None → ¬ (Rose call.host.before.faults call.host.after.faults) → ¬ (Rose call.out.before.faults call.out.after.faults) → Answers call status → (status ≡ Done) ⊎ (status ≡ NoMemory)
+complete-run call status order told script asks short read built host out a = a.complete (Run order) told (TextOf (run_by order (content_of told order.image) script)) asks (comes-to order told script short read ∙ ap (λ (o : Option (ℕ × ℕ)). unless_unbuilt o (TextOf (run_by order (content_of told order.image) script))) built) host out
 
 pub complete-source : (call : Call) (status : Status) (source : List ℕ) (told : List ℕ → Option (List ℕ)) (bytes : List ℕ) → Asks call (Assemble source) told → assembled (content_of told source) ≡ Ok bytes → ¬ (Rose call.host.before.faults call.host.after.faults) → ¬ (Rose call.out.before.faults call.out.after.faults) → Answers call status → (status ≡ Done) ⊎ (status ≡ NoMemory)
 complete-source call status source told bytes asks ok host out a = a.complete (Assemble source) told (Bytes bytes) asks (ap (unless_bad source) ok) host out

@@ -3,7 +3,6 @@ use Rattle.std.proofs.Common.{◌≡◌, ℕ, List, Option, Some, None, IsSomeAn
 use Rattle.std.specs.List.{range_with_len}
 use Rattle.mw_isa.specs.declared.access.Span.{Span}
 use Rattle.mw_isa.specs.State.{brought}
-use Rattle.mw_isa.specs.Start.{boot_of}
 use Rattle.mw_isa.specs.Replay.{cycles_of, replay}
 use Rattle.mw_isa.specs.Text.{text_of}
 use Rattle.mw_isa.specs.Reading.{events_of, end_of}
@@ -12,43 +11,43 @@ use Rattle.mw_board.proofs.ImageLemmas.{start_with, RunsImage, unbuilt_with, run
 use Rattle.mw_cli.specs.declared.status.Status.TheVariants.{Done, WriteFault}
 use Rattle.mw_cli.specs.Command.{RunOrder, Run, order_of}
 use Rattle.mw_cli.specs.Headline.{run_of, Prints, SpellsRun}
-use Rattle.mw_cli.specs.Verdict.{TextOf, first_of, run_by, verdict_of, unless_too_large, unless_unbuilt}
+use Rattle.mw_cli.specs.Verdict.{TextOf, run_by, verdict_on, unless_unbuilt}
 use Rattle.mw_cli.specs.Outside.{Took, TookFront}
 use Rattle.mw_cli.specs.Answers.{Call, Answers}
-use Rattle.mw_cli.specs.Stages.{IsContent}
+use Rattle.mw_cli.specs.Stages.{IsStart}
 use Rattle.mw_cli.proofs.EachStatus.{done-run, cut-run}
 
--- the text's events, its end, and the state that the events leave of the image at n, are a run of the image to n, and the
+-- the text's events, its end, and the state that the events leave of the image and the script at n, are a run of these to n, and the
 -- text is theirs, with the dump
-abbrev pub SpellsImage : List ℕ → ℕ → Option Span → List ℕ → Type 0
-SpellsImage image n dump text =
-    IsSomeAnd (end_of text) (λ end. IsSomeAnd (option_map (brought n) (replay (events_of text) (start_with image))) (λ last.
-    RunsImage image n (events_of text) end last
+abbrev pub SpellsImage : List ℕ → List (ℕ × ℕ) → ℕ → Option Span → List ℕ → Type 0
+SpellsImage image script n dump text =
+    IsSomeAnd (end_of text) (λ end. IsSomeAnd (option_map (brought n) (replay (events_of text) (start_with image script))) (λ last.
+    RunsImage image script n (events_of text) end last
     × (text ≡ text_of (events_of text) end last dump)
     × (cycles_of (events_of text) ≡ range_with_len 0 n)
-    × (unbuilt_with image n ≡ None)))
+    × (unbuilt_with image script n ≡ None)))
 
--- a text that spells a run of an image alone spells it so
-pub spells-image : (image : List ℕ) (n : ℕ) (dump : Option Span) (text : List ℕ) → SpellsRun (run_of image n dump) text → SpellsImage image n dump text
-spells-image image n dump text spells =
-    run-spelled (boot_of image) n text (Prints (run_of image n dump) text) spells (λ end last s runs prints.
-    let image_runs : RunsImage image n (events_of text) end last = runs-image image n (events_of text) end last runs in
-    has_some (end_of text) end _ s.end_is (has_some (option_map (brought n) (replay (events_of text) (start_with image))) last _ image_runs.replayed
-    (image_runs, prints.whole, prints.each_cycle, sym (unbuilt-image image n) ∙ prints.built)))
+-- a text that spells a run of an image and a script spells it so
+pub spells-image : (image : List ℕ) (script : List (ℕ × ℕ)) (n : ℕ) (dump : Option Span) (text : List ℕ) → SpellsRun (run_of image script n dump) text → SpellsImage image script n dump text
+spells-image image script n dump text spells =
+    run-spelled (record { image = image; script = script }) n text (Prints (run_of image script n dump) text) spells (λ end last s runs prints.
+    let image_runs : RunsImage image script n (events_of text) end last = runs-image image script n (events_of text) end last runs in
+    has_some (end_of text) end _ s.end_is (has_some (option_map (brought n) (replay (events_of text) (start_with image script))) last _ image_runs.replayed
+    (image_runs, prints.whole, prints.each_cycle, sym (unbuilt-image image script n) ∙ prints.built)))
 
--- what a run comes to is what it comes to by its image alone
-pub verdict-image : (order : RunOrder) (contents : List (List ℕ)) → verdict_of (Run order) contents ≡ unless_too_large (first_of contents) (unless_unbuilt (unbuilt_with (first_of contents) order.cycles) (TextOf (run_by order (first_of contents))))
-verdict-image order contents =
-    ap (λ (o : Option (ℕ × ℕ)). unless_too_large (first_of contents) (unless_unbuilt o (TextOf (run_by order (first_of contents))))) (unbuilt-image (first_of contents) order.cycles)
+-- what a run comes to is what it comes to by its image and its script
+pub verdict-image : (order : RunOrder) (image : List ℕ) (script : List (ℕ × ℕ)) → verdict_on (run_by order image script) ≡ unless_unbuilt (unbuilt_with image script order.cycles) (TextOf (run_by order image script))
+verdict-image order image script =
+    ap (λ (o : Option (ℕ × ℕ)). unless_unbuilt o (TextOf (run_by order image script))) (unbuilt-image image script order.cycles)
 
 -- with Done out took such a text
-pub done-image : (call : Call) (order : RunOrder) → order_of call.words ≡ Some (Run order) → Answers call Done → (image : List ℕ) × (text : List ℕ) × IsContent call.host order.image image × SpellsImage image order.cycles order.dump text × Took call.out text
+pub done-image : (call : Call) (order : RunOrder) → order_of call.words ≡ Some (Run order) → Answers call Done → (image : List ℕ) × (script : List (ℕ × ℕ)) × (text : List ℕ) × IsStart call.host order image script × SpellsImage image script order.cycles order.dump text × Took call.out text
 done-image call order asked a =
-    let (image, text, content, spells, took) = done-run call order asked a in
-    (image, text, content, spells-image image order.cycles order.dump text spells, took)
+    let (image, script, text, start, spells, took) = done-run call order asked a in
+    (image, script, text, start, spells-image image script order.cycles order.dump text spells, took)
 
 -- and with WriteFault a front of it
-pub cut-image : (call : Call) (order : RunOrder) → order_of call.words ≡ Some (Run order) → Answers call WriteFault → (image : List ℕ) × (text : List ℕ) × IsContent call.host order.image image × SpellsImage image order.cycles order.dump text × TookFront call.out text
+pub cut-image : (call : Call) (order : RunOrder) → order_of call.words ≡ Some (Run order) → Answers call WriteFault → (image : List ℕ) × (script : List (ℕ × ℕ)) × (text : List ℕ) × IsStart call.host order image script × SpellsImage image script order.cycles order.dump text × TookFront call.out text
 cut-image call order asked a =
-    let (image, text, content, spells, took) = cut-run call order asked a in
-    (image, text, content, spells-image image order.cycles order.dump text spells, took)
+    let (image, script, text, start, spells, took) = cut-run call order asked a in
+    (image, script, text, start, spells-image image script order.cycles order.dump text spells, took)

@@ -3,6 +3,8 @@ pub mod WritingLemmas
 pub mod FileLemmas
 pub mod RunLemmas
 pub mod AssemblyLemmas
+pub mod ScriptLemmas
+pub mod GoesLemmas
 pub mod VerdictLemmas
 pub mod CauseLemmas
 pub mod AnswerLemmas

@@ -1,5 +1,5 @@
 -- What an order comes to, from what its part found.
-use Rattle.std.proofs.Common.{◌≡◌, ℕ, ◌<◌, ◌≤◌, Bool, cond, List, [], ◌∷◌, length, Option, Some, None, Result, Ok, Err, IfOk, IfErr, IfSome, IsSomeAnd, option_map, slice_get, refl, sym, ap, ◌∙◌, subst, arith}
+use Rattle.std.proofs.Common.{◌≡◌, ℕ, ◌<◌, ◌≤◌, Bool, cond, List, [], ◌∷◌, length, Option, Some, None, Result, Ok, Err, IfOk, IfErr, IfSome, IsSomeAnd, IsTrue, option_map, slice_get, unwrap_or, refl, sym, ap, ap₂, ◌∙◌, subst, arith}
 use Rattle.std.proofs.lemmas.Bool.{lt-ltb, le-ltb}
 use Rattle.mw_io.specs.Outside.{HostState, Counts, RoseBy, content_of}
 use Rattle.mw_asm.specs.declared.fault.Place.{Place}
@@ -8,13 +8,17 @@ use Rattle.mw_asm.specs.Disassembly.{disassembly}
 use Rattle.mw_cli.specs.declared.status.Status.TheVariants.{Done, ReadFault, ImageTooLarge, BadInput, Unbuilt}
 use Rattle.mw_cli.specs.declared.refusal.Refusal.{Refusal}
 use Rattle.mw_cli.specs.declared.refusal.Refusal.TheVariants.{Unreadable, Unwritable, TooLarge, Bad, OutOfMemory, NotBuilt}
-use Rattle.mw_cli.specs.Command.{RunOrder, Order, Run, Assemble, Disassemble, Wanted, files_of}
-use Rattle.mw_isa.specs.Start.{Boot, boot_of}
+use Rattle.mw_cli.specs.Command.{RunOrder, Order, Run, Assemble, Disassemble, Wanted, files_of, script_files}
+use Rattle.mw_isa.specs.Start.{Boot}
 use Rattle.mw_cli.specs.Headline.{SpellsRun}
-use Rattle.mw_cli.specs.Verdict.{TextOf, Bytes, Verdict, Writes, Refuses, run_by, verdict_of, unless_too_large, unless_unbuilt, unless_bad, too_large_line, unbuilt_line, bad_line}
-use Rattle.mw_cli.specs.Outside.{Change}
+use Rattle.mw_cli.specs.Verdict.{TextOf, Bytes, Verdict, Writes, Refuses, first_of, text_by, run_by, verdict_on, verdict_by, verdict_of, with_script, unless_too_large, unless_unbuilt, unless_bad, too_large_line, unbuilt_line, bad_line}
+use Rattle.mw_cli.specs.Outside.{Change, change, contents_of}
 use Rattle.mw_cli.specs.Answers.{ComesTo, Gives, IsUnread}
-use Rattle.mw_cli.specs.Stages.{ending, IsContent, IsAbsent, IsReadRefusal, IsLoadRefusal, IsRunRefusal, GivesNothing}
+use Rattle.mw_cli.specs.Stages.{ending, IsContent, IsAbsent, IsReadRefusal, IsLoadRefusal, IsScript, IsScriptOf, IsStart, IsScriptRefusal, IsRunRefusal, GivesNothing}
+use Rattle.mw_bus.specs.Memory.{ram_size}
+use Rattle.mw_uart.specs.Script.{Place as ScriptPlace, script_of}
+use Rattle.mw_uart.proofs.Laws.{script_of-empty}
+use Rattle.mw_cli.proofs.GoesLemmas.{rose-twice}
 use Rattle.mw_cli.proofs.FileLemmas.{Files}
 use Rattle.mw_cli.proofs.RunLemmas.{spelled}
 
@@ -31,9 +35,33 @@ one-content : (files : Files) (name bytes : List ℕ) → IfSome files (λ told.
 one-content None name bytes is = tt
 one-content (Some told) name bytes is = ap (λ (x : List ℕ). x ∷ []) is
 
--- what an order of each kind comes to, with the content of its file
-comes-run : (host : Change HostState) (order : RunOrder) (image : List ℕ) (verdict : Verdict) → IsContent host order.image image → verdict_of (Run order) (image ∷ []) ≡ verdict → ComesTo host (Run order) verdict
-comes-run host order image verdict is e = (image ∷ [], one-content host.before.files order.image image is, e)
+-- the script of a run has this text, where the host tells its files; where none is named, it is empty
+abbrev pub IsText : Files → Option (List ℕ) → List ℕ → Type 0
+IsText files None text = text ≡ []
+IsText files (Some name) text = IfSome files (λ told. text ≡ content_of told name)
+
+-- what the files of a run have, where the image has these bytes
+image-contents : (files : Files) (name : List ℕ) (script : Option (List ℕ)) (image : List ℕ) → IfSome files (λ told. image ≡ content_of told name) → (contents : List (List ℕ)) × IfSome files (λ told. contents ≡ contents_of told (record { name = name; most = ram_size } ∷ script_files script)) × (first_of contents ≡ image)
+image-contents None name script image is = (image ∷ [], tt, refl)
+image-contents (Some told) name script image is = (contents_of told (record { name = name; most = ram_size } ∷ script_files script), refl, sym is)
+
+-- and the script this text
+both-contents : (files : Files) (name : List ℕ) (script : Option (List ℕ)) (image text : List ℕ) → IfSome files (λ told. image ≡ content_of told name) → IsText files script text → (contents : List (List ℕ)) × IfSome files (λ told. contents ≡ contents_of told (record { name = name; most = ram_size } ∷ script_files script)) × (first_of contents ≡ image) × (text_by script contents ≡ text)
+both-contents None name None image text is t = (image ∷ [], tt, refl, sym t)
+both-contents None name (Some script) image text is t = (image ∷ text ∷ [], tt, refl, refl)
+both-contents (Some told) name None image text is t = (content_of told name ∷ [], refl, sym is, sym t)
+both-contents (Some told) name (Some script) image text is t = (content_of told name ∷ content_of told script ∷ [], refl, sym is, sym t)
+
+-- what an order of each kind comes to, with the contents of its files
+comes-long : (host : Change HostState) (order : RunOrder) (image : List ℕ) → IsContent host order.image image → ram_size < length image → ComesTo host (Run order) (Refuses ImageTooLarge too_large_line)
+comes-long host order image is long =
+    let (contents, are, first) = image-contents host.before.files order.image order.script image is in
+    (contents, are, ap (λ (bytes : List ℕ). verdict_by order bytes (text_by order.script contents)) first ∙ too_long image _ long)
+
+comes-run : (host : Change HostState) (order : RunOrder) (image text : List ℕ) (verdict : Verdict) → IsContent host order.image image → IsText host.before.files order.script text → verdict_by order image text ≡ verdict → ComesTo host (Run order) verdict
+comes-run host order image text verdict is t e =
+    let (contents, are, first, second) = both-contents host.before.files order.image order.script image text is t in
+    (contents, are, ap₂ (verdict_by order) first second ∙ e)
 
 comes-source : (host : Change HostState) (name source : List ℕ) (verdict : Verdict) → IsContent host name source → verdict_of (Assemble name) (source ∷ []) ≡ verdict → ComesTo host (Assemble name) verdict
 comes-source host name source verdict is e = (source ∷ [], one-content host.before.files name source is, e)
@@ -41,11 +69,23 @@ comes-source host name source verdict is e = (source ∷ [], one-content host.be
 comes-listing : (host : Change HostState) (name image : List ℕ) (verdict : Verdict) → IsContent host name image → verdict_of (Disassemble name) (image ∷ []) ≡ verdict → ComesTo host (Disassemble name) verdict
 comes-listing host name image verdict is e = (image ∷ [], one-content host.before.files name image is, e)
 
+-- the text of a script that is read
+text-from : (host : Change HostState) (named : Option (List ℕ)) (script : List (ℕ × ℕ)) → IsScriptOf host named script → (text : List ℕ) × IsText host.before.files named text × (script_of text ≡ Ok script)
+text-from host None script is = ([], refl, is)
+text-from host (Some name) script is = is
+
+-- what a run comes to whose image fits and whose script is read
+pub starts : (order : RunOrder) (image text : List ℕ) (script : List (ℕ × ℕ)) → length image ≤ 16777216 → script_of text ≡ Ok script → verdict_by order image text ≡ verdict_on (run_by order image script)
+starts order image text script short read =
+    fits image _ short
+    ∙ ap (λ (r : Result (List (ℕ × ℕ)) ScriptPlace). with_script (unwrap_or order.script []) r (λ s. verdict_on (run_by order image s))) read
+
 -- a run gives its text
-gives-run : (host : Change HostState) (order : RunOrder) (image text : List ℕ) → IsContent host order.image image → SpellsRun (run_by order image) text → Gives host (Run order) text
-gives-run host order image text is spells =
-    let facts = spelled (run_by order image) text spells in
-    (TextOf (run_by order image), comes-run host order image (Writes (TextOf (run_by order image))) is (fits image _ facts.0 ∙ ap (λ (o : Option (ℕ × ℕ)). unless_unbuilt o (TextOf (run_by order image))) facts.1), spells)
+gives-run : (host : Change HostState) (order : RunOrder) (image : List ℕ) (script : List (ℕ × ℕ)) (text : List ℕ) → IsStart host order image script → SpellsRun (run_by order image script) text → Gives host (Run order) text
+gives-run host order image script text start spells =
+    let facts = spelled (run_by order image script) text spells in
+    let (source, is, read) = text-from host order.script script start.script_is in
+    (TextOf (run_by order image script), comes-run host order image source (Writes (TextOf (run_by order image script))) start.image_is is (starts order image source script start.image_fits read ∙ ap (λ (o : Option (ℕ × ℕ)). unless_unbuilt o (TextOf (run_by order image script))) facts.1), spells)
 
 -- a source gives its bytes
 pub gives-source : (host : Change HostState) (name bytes : List ℕ) → (source : List ℕ) × IsContent host name source × (assembled source ≡ Ok bytes) → Gives host (Assemble name) bytes
@@ -63,7 +103,7 @@ unread host order name which first opened e absent =
 -- why the image of a run isn't there
 pub run-unread : (host : Change HostState) (order : RunOrder) (refusal : Refusal) → RoseBy 1 host.before.opened host.after.opened → IsLoadRefusal host order.image refusal → GivesNothing host (Run order) refusal
 run-unread host order (Unreadable which) opened (e, absent) = unread host (Run order) order.image which.now refl opened e absent
-run-unread host order TooLarge opened (image, is, long) = comes-run host order image (Refuses ImageTooLarge too_large_line) is (too_long image _ long)
+run-unread host order TooLarge opened (image, is, long) = comes-long host order image is long
 run-unread host order (NotBuilt cia) opened cause = absurd cause
 run-unread host order (Bad name line column) opened cause = absurd cause
 run-unread host order Unwritable opened cause = absurd cause
@@ -91,23 +131,87 @@ source-unread host name OutOfMemory opened cause = tt
 pub source-bad : (host : Change HostState) (name : List ℕ) (place : Place) → (source : List ℕ) × IsContent host name source × (assembled source ≡ Err place) → ComesTo host (Assemble name) (Refuses BadInput (bad_line name place.line place.column))
 source-bad host name place (source, is, e) = comes-source host name source (Refuses BadInput (bad_line name place.line place.column)) is (ap (unless_bad name) e)
 
+-- a text of the script that is named, by files that are the same
+text-since : (files since : Files) (named : Option (List ℕ)) (name text : List ℕ) → since ≡ files → named ≡ Some name → IfSome since (λ told. text ≡ content_of told name) → IsText files named text
+text-since files since named name text same e is =
+    subst (λ (n : Option (List ℕ)). IsText files n text) (sym e) (subst (λ (f : Files). IfSome f (λ told. text ≡ content_of told name)) same is)
+
+-- and a script that is read of it
+script-since : (before middle after : HostState) (named : Option (List ℕ)) (name : List ℕ) (script : List (ℕ × ℕ)) → middle.files ≡ before.files → named ≡ Some name → IsScript (change middle after) name script → IsScriptOf (change before after) named script
+script-since before middle after named name script same e (text, is, read) =
+    subst (λ (n : Option (List ℕ)). IsScriptOf (change before after) n script) (sym e)
+    (text, subst (λ (f : Files). IfSome f (λ told. text ≡ content_of told name)) same is, read)
+
+-- with an image that is there, a script that is read makes a start
+pub starts-both : (before middle after : HostState) (order : RunOrder) (image name : List ℕ) (script : List (ℕ × ℕ)) → middle.files ≡ before.files → order.script ≡ Some name → IsContent (change before middle) order.image image → length image ≤ ram_size → IsScript (change middle after) name script → IsStart (change before after) order image script
+starts-both before middle after order image name script same e is short read = record {
+  image_is = is;
+  image_fits = short;
+  script_is = script-since before middle after order.script name script same e read;
+}
+
+-- where none is named, no byte arrives
+pub starts-alone : (host : Change HostState) (order : RunOrder) (image : List ℕ) (script : List (ℕ × ℕ)) → order.script ≡ None → script ≡ [] → IsContent host order.image image → length image ≤ ram_size → IsStart host order image script
+starts-alone host order image script e none is short = record {
+  image_is = is;
+  image_fits = short;
+  script_is = subst (λ (n : Option (List ℕ)). IsScriptOf host n script) (sym e) (script_of-empty ∙ ap Ok (sym none));
+}
+
+-- the script of a run that isn't read
+absent-since : (before middle after : HostState) (name which : List ℕ) → middle.files ≡ before.files → (IsTrue before.is_sound → IsTrue middle.is_sound) → which ≡ name → IsAbsent (change middle after) name → IsAbsent (change before after) which
+absent-since before middle after name which same sound e absent = λ s.
+    subst (λ (n : List ℕ). IsSomeAnd before.files (λ told. told n ≡ None)) (sym e)
+    (subst (λ (f : Files). IsSomeAnd f (λ told. told name ≡ None)) same (absent (sound s)))
+
+second-name : (image : Wanted) (named : Option (List ℕ)) (name which : List ℕ) → named ≡ Some name → which ≡ name → option_map (λ (file : Wanted). file.name) (slice_get (image ∷ script_files named) 1) ≡ Some which
+second-name image named name which e w = ap (λ (n : Option (List ℕ)). option_map (λ (file : Wanted). file.name) (slice_get (image ∷ script_files n) 1)) e ∙ ap Some (sym w)
+
+-- a script that is refused at a place
+pub refused : (order : RunOrder) (image name text : List ℕ) (place : ScriptPlace) → length image ≤ 16777216 → order.script ≡ Some name → script_of text ≡ Err place → verdict_by order image text ≡ Refuses BadInput (bad_line name place.line place.column)
+refused order image name text place short e bad =
+    fits image _ short
+    ∙ ap₂ (λ (n : List ℕ) (r : Result (List (ℕ × ℕ)) ScriptPlace). with_script n r (λ s. verdict_on (run_by order image s))) (ap (λ (n : Option (List ℕ)). unwrap_or n []) e) bad
+
+comes-bad : (host : Change HostState) (order : RunOrder) (image name which text : List ℕ) (place : ScriptPlace) → IsContent host order.image image → length image ≤ 16777216 → order.script ≡ Some name → which ≡ name → IsText host.before.files order.script text → script_of text ≡ Err place → ComesTo host (Run order) (Refuses BadInput (bad_line which place.line place.column))
+comes-bad host order image name which text place is short e w t bad =
+    comes-run host order image text (Refuses BadInput (bad_line which place.line place.column)) is t (refused order image which text place short (e ∙ ap Some (sym w)) bad)
+
+-- that it is a text of the script's shows the script
+pub script-from : (host : Change HostState) (named : Option (List ℕ)) (text : List ℕ) (script : List (ℕ × ℕ)) → IsText host.before.files named text → script_of text ≡ Ok script → IsScriptOf host named script
+script-from host None text script is read = sym (ap script_of is) ∙ read
+script-from host (Some name) text script is read = (text, is, read)
+
+-- why the script of a run isn't there
+pub run-unscripted : (before middle after : HostState) (order : RunOrder) (image name : List ℕ) (refusal : Refusal) → middle.files ≡ before.files → (IsTrue before.is_sound → IsTrue middle.is_sound) → RoseBy 1 before.opened middle.opened → RoseBy 1 middle.opened after.opened → order.script ≡ Some name → IsContent (change before middle) order.image image → length image ≤ 16777216 → IsScriptRefusal (change middle after) name refusal → GivesNothing (change before after) (Run order) refusal
+run-unscripted before middle after order image name (Unreadable which) same sound first second e is short (w, absent) =
+    (1, second-name (record { name = order.image; most = ram_size }) order.script name which.now e w, rose-twice before.opened middle.opened after.opened first second, absent-since before middle after name which.now same sound w absent)
+run-unscripted before middle after order image name TooLarge same sound first second e is short cause = absurd cause
+run-unscripted before middle after order image name (NotBuilt cia) same sound first second e is short cause = absurd cause
+run-unscripted before middle after order image name (Bad which line column) same sound first second e is short (w, (text, t, bad)) =
+    comes-bad (change before after) order image name which.now text (record { line = line; column = column }) is short e w (text-since before.files middle.files order.script name text same e t) bad
+run-unscripted before middle after order image name Unwritable same sound first second e is short cause = absurd cause
+run-unscripted before middle after order image name OutOfMemory same sound first second e is short cause = tt
+
 -- why a run has no text
-run-stops : (host : Change HostState) (order : RunOrder) (image : List ℕ) (refusal : Refusal) → IsContent host order.image image → length image ≤ 16777216 → IsRunRefusal (boot_of image) order.cycles refusal → GivesNothing host (Run order) refusal
-run-stops host order image (Unreadable which) is short cause = absurd cause
-run-stops host order image TooLarge is short cause = absurd cause
-run-stops host order image (NotBuilt cia) is short (cycle, e) = comes-run host order image (Refuses Unbuilt (unbuilt_line cia)) is (fits image _ short ∙ ap (λ (o : Option (ℕ × ℕ)). unless_unbuilt o (TextOf (run_by order image))) e)
-run-stops host order image (Bad name line column) is short cause = absurd cause
-run-stops host order image Unwritable is short cause = absurd cause
-run-stops host order image OutOfMemory is short cause = tt
+run-stops : (host : Change HostState) (order : RunOrder) (image : List ℕ) (script : List (ℕ × ℕ)) (refusal : Refusal) → IsStart host order image script → IsRunRefusal (record { image = image; script = script }) order.cycles refusal → GivesNothing host (Run order) refusal
+run-stops host order image script (Unreadable which) start cause = absurd cause
+run-stops host order image script TooLarge start cause = absurd cause
+run-stops host order image script (NotBuilt cia) start (cycle, e) =
+    let (text, is, read) = text-from host order.script script start.script_is in
+    comes-run host order image text (Refuses Unbuilt (unbuilt_line cia)) start.image_is is (starts order image text script start.image_fits read ∙ ap (λ (o : Option (ℕ × ℕ)). unless_unbuilt o (TextOf (run_by order image script))) e)
+run-stops host order image script (Bad name line column) start cause = absurd cause
+run-stops host order image script Unwritable start cause = absurd cause
+run-stops host order image script OutOfMemory start cause = tt
 
 -- what a run gives, and why it gives nothing
-pub run-gives : (host : Change HostState) (order : RunOrder) (image : List ℕ) (r : Result (List ℕ) Refusal) → IsContent host order.image image → IfOk r (SpellsRun (run_by order image)) → IfOk r (Gives host (Run order))
-run-gives host order image (Ok text) is spells = gives-run host order image text is spells
-run-gives host order image (Err refusal) is spells = tt
+pub run-gives : (host : Change HostState) (order : RunOrder) (image : List ℕ) (script : List (ℕ × ℕ)) (r : Result (List ℕ) Refusal) → IsStart host order image script → IfOk r (SpellsRun (run_by order image script)) → IfOk r (Gives host (Run order))
+run-gives host order image script (Ok text) start spells = gives-run host order image script text start spells
+run-gives host order image script (Err refusal) start spells = tt
 
-pub run-refused : (host : Change HostState) (order : RunOrder) (image : List ℕ) (r : Result (List ℕ) Refusal) → IsContent host order.image image → length image ≤ 16777216 → IfErr r (IsRunRefusal (boot_of image) order.cycles) → IfErr r (GivesNothing host (Run order))
-run-refused host order image (Ok text) is short cause = tt
-run-refused host order image (Err refusal) is short cause = run-stops host order image refusal is short cause
+pub run-refused : (host : Change HostState) (order : RunOrder) (image : List ℕ) (script : List (ℕ × ℕ)) (r : Result (List ℕ) Refusal) → IsStart host order image script → IfErr r (IsRunRefusal (record { image = image; script = script }) order.cycles) → IfErr r (GivesNothing host (Run order))
+run-refused host order image script (Ok text) start cause = tt
+run-refused host order image script (Err refusal) start cause = run-stops host order image script refusal start cause
 
 -- a count that stays, where its cause didn't come
 pub calm : (before after : ℕ) (came : Type 0) → after ≡ before → ¬ came → Counts before after came

@@ -1,5 +1,5 @@
 -- What each status says of the call that it ends.
-use Rattle.std.specs.Prelude.{ℕ, ◌+◌, ◌≡◌, ◌⊎◌, List, [], ◌++◌, map, Option, Some, None, option_map, slice_get, Result, Ok, Err, IfSome, IsSome, IsSomeAnd, IsTrue, Vec, String, string_bytes, codes, ⊤}
+use Rattle.std.specs.Prelude.{ℕ, ◌+◌, ◌≡◌, ◌≤◌, ◌⊎◌, List, [], ◌++◌, length, map, Option, Some, None, option_map, slice_get, Result, Ok, Err, IfSome, IsSome, IsSomeAnd, IsTrue, Vec, String, string_bytes, codes, ⊤}
 use Rattle.std.specs.Process.{exit_status}
 use Rattle.std.specs.declared.process.ExitCode.{ExitCode}
 use Rattle.mw_io.specs.Outside.{HostState, SinkState, Counts, Rose, RoseBy}
@@ -117,12 +117,18 @@ pub record Answers (call : Call) (status : Status) : Type 0 where
 pub record GoesFar (status : Status) (opened others : List Wanted) : Type 0 where
   -- with Done and WriteFault it goes to the last
   pub to_last : (status ≡ Done) ⊎ (status ≡ WriteFault) → others ≡ []
+  -- with ImageTooLarge no further than to the first
+  pub no_further : status ≡ ImageTooLarge → length opened ≤ 1
   -- and with any other status but NoMemory at least to the first
   pub to_first : ¬ (status ≡ NoMemory) → opened ≡ [] → others ≡ []
 
+-- a host goes through these files, so far as the status says
+abbrev pub Goes : Change HostState → List Wanted → Status → Type 0
+Goes host files status = (opened : List Wanted) × (others : List Wanted) × (files ≡ opened ++ others) × Opens host opened × GoesFar status opened others
+
 -- the call goes through the files that its words ask for, so far as its status says
 abbrev pub GoesThrough : Call → Status → Type 0
-GoesThrough call status = (opened : List Wanted) × (others : List Wanted) × (files_by call.words ≡ opened ++ others) × Opens call.host opened × GoesFar status opened others
+GoesThrough call status = Goes call.host (files_by call.words) status
 
 -- these are the words that were given: any, where there was no memory for them
 abbrev pub AreWords : {A B E : Type 0} → Result (Vec (String A) B) E → List (List ℕ) → Type 0

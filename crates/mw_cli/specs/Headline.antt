@@ -7,7 +7,7 @@ use Rattle.mw_isa.specs.declared.access.Span.{Span}
 use Rattle.mw_isa.specs.declared.event.Event.{Event}
 use Rattle.mw_isa.specs.declared.event.End.{End}
 use Rattle.mw_isa.specs.State.{State}
-use Rattle.mw_isa.specs.Start.{Boot, boot_of}
+use Rattle.mw_isa.specs.Start.{Boot}
 use Rattle.mw_isa.specs.Replay.{cycles_of}
 use Rattle.mw_isa.specs.Unbuilt.{first_unbuilt}
 use Rattle.mw_isa.specs.Text.{text_of}
@@ -19,9 +19,9 @@ pub record AskedRun : Type 0 where
   pub cycles : ℕ
   pub dump : Option Span
 
--- a run of an image alone
-abbrev pub run_of : List ℕ → ℕ → Option Span → AskedRun
-run_of image cycles dump = record { boot = boot_of image; cycles = cycles; dump = dump }
+-- a run of an image and a script
+abbrev pub run_of : List ℕ → List (ℕ × ℕ) → ℕ → Option Span → AskedRun
+run_of image script cycles dump = record { boot = record { image = image; script = script }; cycles = cycles; dump = dump }
 
 -- the text is printed of this run, which has these events, this end and this last state
 pub record Prints (run : AskedRun) (text : List ℕ) (events : List Event) (end : End) (last : State) : Type 0 where

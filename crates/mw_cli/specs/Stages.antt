@@ -1,14 +1,15 @@
 -- What the parts of a call say, each of its own refusals.
-use Rattle.std.specs.Prelude.{ℕ, ◌+◌, ◌≡◌, ◌<◌, ◌⊎◌, List, length, take, Some, None, Result, Ok, Err, IfSome, IsSomeAnd, IsTrue, ⊤}
+use Rattle.std.specs.Prelude.{ℕ, ◌+◌, ◌≡◌, ◌<◌, ◌≤◌, ◌⊎◌, List, [], length, take, Option, Some, None, Result, Ok, Err, IfSome, IsSomeAnd, IsTrue, ⊤}
 use Rattle.mw_bus.specs.Memory.{ram_size}
 use Rattle.mw_io.specs.Outside.{HostState, SinkState, Rose, content_of}
+use Rattle.mw_uart.specs.Script.{script_of}
 use Rattle.mw_isa.specs.Start.{Boot}
 use Rattle.mw_isa.specs.Unbuilt.{first_unbuilt}
 use Rattle.mw_cli.specs.declared.status.Status.{Status}
 use Rattle.mw_cli.specs.declared.status.Status.TheVariants.{Done}
 use Rattle.mw_cli.specs.declared.refusal.Refusal.{Refusal}
 use Rattle.mw_cli.specs.declared.refusal.Refusal.TheVariants.{Unreadable, Unwritable, TooLarge, Bad, OutOfMemory, NotBuilt}
-use Rattle.mw_cli.specs.Command.{Wanted, Order}
+use Rattle.mw_cli.specs.Command.{RunOrder, Wanted, Order}
 use Rattle.mw_cli.specs.Verdict.{Refuses, too_large_line, unbuilt_line, bad_line}
 use Rattle.mw_cli.specs.Outside.{Change, TookNothing, TookFront}
 use Rattle.mw_cli.specs.Answers.{ComesTo, CutShort, IsUnread, unread_line, unwritten_line, no_memory_line}
@@ -54,6 +55,30 @@ IsTooLong host name = (image : List ℕ) × IsContent host name image × (ram_si
 abbrev pub IsLoadRefusal : Change HostState → List ℕ → Refusal → Type 0
 IsLoadRefusal host name TooLarge = IsTooLong host name
 IsLoadRefusal host name refusal = IsReadRefusal host name refusal
+
+-- this is the script of this name, where the host tells its files, or that of some text
+abbrev pub IsScript : Change HostState → List ℕ → List (ℕ × ℕ) → Type 0
+IsScript host name script = (text : List ℕ) × IsContent host name text × (script_of text ≡ Ok script)
+
+-- the text of the script of this name is refused at this place
+abbrev pub IsBadScript : Change HostState → List ℕ → ℕ → ℕ → Type 0
+IsBadScript host name line column = (text : List ℕ) × IsContent host name text × (script_of text ≡ Err (record { line = line; column = column }))
+
+-- this is the script that an order has: that of the file that it names, and none where it names none
+abbrev pub IsScriptOf : Change HostState → Option (List ℕ) → List (ℕ × ℕ) → Type 0
+IsScriptOf host None script = script_of [] ≡ Ok script
+IsScriptOf host (Some name) script = IsScript host name script
+
+-- this is what the board is started with for a run
+pub record IsStart (host : Change HostState) (order : RunOrder) (image : List ℕ) (script : List (ℕ × ℕ)) : Type 0 where
+  pub image_is : IsContent host order.image image
+  pub image_fits : length image ≤ ram_size
+  pub script_is : IsScriptOf host order.script script
+
+-- why a script isn't there
+abbrev pub IsScriptRefusal : Change HostState → List ℕ → Refusal → Type 0
+IsScriptRefusal host name (Bad which line column) = (which.now ≡ name) × IsBadScript host name line column
+IsScriptRefusal host name refusal = IsReadRefusal host name refusal
 
 -- the first instruction that isn't built, of those that a run of the boot reaches, is at this address
 abbrev pub ReachesUnbuilt : Boot → ℕ → ℕ → Type 0

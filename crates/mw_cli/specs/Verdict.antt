@@ -1,8 +1,9 @@
 -- What an order comes to, given what its files have.
-use Rattle.std.specs.Prelude.{ℕ, ◌≡◌, if◌then◌else◌, nat_lt, List, [], ◌∷◌, ◌++◌, length, Option, Some, None, Result, Ok, Err, codes, decimal}
+use Rattle.std.specs.Prelude.{ℕ, ◌≡◌, if◌then◌else◌, nat_lt, List, [], ◌∷◌, ◌++◌, length, Option, Some, None, unwrap_or, Result, Ok, Err, codes, decimal}
 use Rattle.mw_bus.specs.Memory.{ram_size}
 use Rattle.mw_digits.specs.Digits.{hex}
 use Rattle.mw_isa.specs.Unbuilt.{first_unbuilt}
+use Rattle.mw_uart.specs.Script.{Place as ScriptPlace, script_of}
 use Rattle.mw_asm.specs.declared.fault.Place.{Place}
 use Rattle.mw_asm.specs.Assembled.{assembled}
 use Rattle.mw_asm.specs.Disassembly.{disassembly}
@@ -19,11 +20,11 @@ too_large_line = codes "mw: image exceeds 16777216 bytes\n"
 abbrev pub unbuilt_line : ℕ → List ℕ
 unbuilt_line cia = codes "mw: unbuilt at " ++ hex 16 cia ++ codes "\n"
 
--- the end of the line on err for a refused source: its line and column, in decimal
+-- the end of the line on err for a refused source or script: its line and column, in decimal
 abbrev pub place_line : ℕ → ℕ → List ℕ
 place_line line column = decimal line ++ codes ":" ++ (decimal column ++ codes ": bad input\n")
 
--- the line on err for a refused source, with its name
+-- the line on err for a refused source or script, with its name
 abbrev pub bad_line : List ℕ → ℕ → ℕ → List ℕ
 bad_line name line column = codes "mw: " ++ name ++ codes ":" ++ place_line line column
 
@@ -52,13 +53,23 @@ abbrev pub first_of : List (List ℕ) → List ℕ
 first_of [] = []
 first_of (bytes ∷ others) = bytes
 
+-- the second of them
+abbrev pub second_of : List (List ℕ) → List ℕ
+second_of [] = []
+second_of (bytes ∷ others) = first_of others
+
+-- the text of a run's script: that of its file, and an empty one where none is named
+abbrev pub text_by : Option (List ℕ) → List (List ℕ) → List ℕ
+text_by None contents = []
+text_by (Some name) contents = second_of contents
+
 -- this verdict, unless the image is longer than RAM
 abbrev pub unless_too_large : List ℕ → Verdict → Verdict
 unless_too_large image verdict = if nat_lt ram_size (length image) then Refuses ImageTooLarge too_large_line else verdict
 
--- the run that an order asks for, given what the image's file has
-abbrev pub run_by : RunOrder → List ℕ → AskedRun
-run_by order image = run_of image order.cycles order.dump
+-- the run that an order asks for, given what the image's file has, and its script
+abbrev pub run_by : RunOrder → List ℕ → List (ℕ × ℕ) → AskedRun
+run_by order image script = run_of image script order.cycles order.dump
 
 -- this is written, unless the run reaches an instruction that isn't built
 abbrev pub unless_unbuilt : Option (ℕ × ℕ) → Output → Verdict
@@ -70,12 +81,22 @@ abbrev pub unless_bad : List ℕ → Result (List ℕ) Place → Verdict
 unless_bad name (Ok bytes) = Writes (Bytes bytes)
 unless_bad name (Err place) = Refuses BadInput (bad_line name place.line place.column)
 
--- what a run comes to: its text is written, unless its image is too long or it reaches an instruction that isn't built
+-- what a run comes to: its text is written, unless it reaches an instruction that isn't built
 abbrev pub verdict_on : AskedRun → Verdict
-verdict_on run = unless_too_large run.boot.image (unless_unbuilt (first_unbuilt run.boot run.cycles) (TextOf run))
+verdict_on run = unless_unbuilt (first_unbuilt run.boot run.cycles) (TextOf run)
+
+-- what the script of this name leads to, unless its text is refused at a place
+abbrev pub with_script : List ℕ → Result (List (ℕ × ℕ)) ScriptPlace → (List (ℕ × ℕ) → Verdict) → Verdict
+with_script name (Ok script) verdict = verdict script
+with_script name (Err place) verdict = Refuses BadInput (bad_line name place.line place.column)
+
+-- what a run comes to, given what its image's file has and the text of its script: the image's length is judged first,
+-- then the script, then the run
+abbrev pub verdict_by : RunOrder → List ℕ → List ℕ → Verdict
+verdict_by order image text = unless_too_large image (with_script (unwrap_or order.script []) (script_of text) (λ script. verdict_on (run_by order image script)))
 
 -- what an order comes to, given what its files have, in their order
 abbrev pub verdict_of : Order → List (List ℕ) → Verdict
-verdict_of (Run order) contents = verdict_on (run_by order (first_of contents))
+verdict_of (Run order) contents = verdict_by order (first_of contents) (text_by order.script contents)
 verdict_of (Assemble source) contents = unless_bad source (assembled (first_of contents))
 verdict_of (Disassemble image) contents = unless_too_large (first_of contents) (Writes (Bytes (disassembly (first_of contents))))

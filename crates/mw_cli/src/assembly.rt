@@ -2,8 +2,8 @@ ghost use Rattle.std.specs.Prelude.{◌≡◌, IfOk, IfErr, IsTrue};
 ghost use Rattle.mw_cli.specs.Command.{Assemble, files_of};
 ghost use Rattle.mw_io.specs.Outside.{Counts};
 ghost use Rattle.mw_cli.specs.declared.status.Status.TheVariants.{ReadFault};
-ghost use Rattle.mw_cli.specs.Outside.{change, Opens};
-ghost use Rattle.mw_cli.specs.Answers.{Gives};
+ghost use Rattle.mw_cli.specs.Outside.{change};
+ghost use Rattle.mw_cli.specs.Answers.{Gives, Goes};
 ghost use Rattle.mw_cli.specs.Stages.{ending, GivesNothing};
 
 use crate::refusal::Refusal;
@@ -26,7 +26,7 @@ pub fn image_of<'a, H: Host>(
     ensures gives { IfOk result (Gives (change (H.state host.old) (H.state host.new)) (Assemble source.now)) }
     ensures refused { IfErr result (GivesNothing (change (H.state host.old) (H.state host.new)) (Assemble source.now)) }
     ensures faults { Counts (H.state host.old).faults (H.state host.new).faults (ending result ≡ ReadFault) }
-    ensures opens { Opens (change (H.state host.old) (H.state host.new)) (files_of (Assemble source.now)) }
+    ensures goes { Goes (change (H.state host.old) (H.state host.new)) (files_of (Assemble source.now)) (ending result) }
     ensures same_files { (H.state host.new).files ≡ (H.state host.old).files }
     ensures stays_sound { IsTrue (H.state host.old).is_sound → IsTrue (H.state host.new).is_sound }
 {

@@ -1,6 +1,6 @@
-ghost use Rattle.std.specs.Prelude.{◌≡◌, ◌+◌, ◌≤◌, map, string_bytes, option_map, IfSome, bytes_eq, decimal};
+ghost use Rattle.std.specs.Prelude.{◌≡◌, ◌+◌, ◌≤◌, map, string_bytes, option_map, option_and_then, IfSome, bytes_eq, decimal};
 ghost use Rattle.mw_bus.specs.Memory.{ram_size};
-ghost use Rattle.mw_cli.specs.Command.{order_in, order_of, IsBounded, is_name, number_up_to, span_by, span_of, dump_by, order_by, file_by};
+ghost use Rattle.mw_cli.specs.Command.{asked_in, order_in, order_of, IsBounded, IsInRam, is_name, number_up_to, span_by, span_of, dump_by, one_asked, both_asked, asked_of, order_by, file_by};
 
 use mw_bus::RAM_SIZE;
 use mw_isa::Span;
@@ -14,15 +14,24 @@ const RAM_BYTES: u64 = RAM_SIZE as u64;
 /// The greatest number of bytes that a dump may be asked for.
 const MOST_DUMPED: u64 = 65536;
 
-/// A run of an image for a number of cycles, and a dump.
+/// What a run may be asked for behind its number of cycles.
+#[derive(Clone, Copy)]
+pub struct More<'a> {
+    /// The stretch of RAM that is dumped, if one is. In an order it has 1 to `MOST_DUMPED` bytes, all of them in RAM.
+    pub dump: Option<Span>,
+    /// The name of the script's file, if there is one. In an order it is not empty and doesn't begin with a minus.
+    pub script: Option<&'a str>,
+}
+
+/// A run of an image for a number of cycles, a dump and a script.
 #[derive(Clone, Copy)]
 pub struct RunCommand<'a> {
     /// The name of the image's file. In an order it is not empty and doesn't begin with a minus.
     pub image: &'a str,
     /// How many cycles the run has. In an order they are at most `MOST_CYCLES`.
     pub cycles: u64,
-    /// The stretch of RAM that is dumped, if one is. In an order it has 1 to `MOST_DUMPED` bytes, all of them in RAM.
-    pub dump: Option<Span>,
+    /// What else it is asked for.
+    pub more: More<'a>,
 }
 
 /// What the words ask for.
@@ -116,24 +125,92 @@ fn dump_by(option: &str, word: &str) -> Option<Span>
     }
 }
 
-/// The run that four words and a dump ask for, if the words are in its grammar.
+/// What an option and its word ask for, if it is a dump's or a script's.
+fn one_asked<'a>(option: &str, word: &'a str) -> Option<More<'a>>
+    ensures value { option_map asked_in result ≡ one_asked option.now word.now }
+    ensures room { IfSome result IsInRam }
+{
+    if option == "--script" {
+        if is_name(word) {
+            Some(More {
+                dump: None,
+                script: Some(word),
+            })
+        } else {
+            None
+        }
+    } else {
+        match dump_by(option, word) {
+            Some(span) => Some(More {
+                dump: Some(span),
+                script: None,
+            }),
+            None => None,
+        }
+    }
+}
+
+/// What two options and their words ask for, if they are a dump's and a script's.
+fn both_asked<'a>(option: &str, word: &str, second: &str, name: &'a str) -> Option<More<'a>>
+    ensures value { option_map asked_in result ≡ both_asked option.now word.now second.now name.now }
+    ensures room { IfSome result IsInRam }
+{
+    if second == "--script" && is_name(name) {
+        match dump_by(option, word) {
+            Some(span) => Some(More {
+                dump: Some(span),
+                script: Some(name),
+            }),
+            None => None,
+        }
+    } else {
+        None
+    }
+}
+
+/// What the words behind a run's number of cycles ask for: nothing more, a dump, a script, or a dump and a script.
+#[tactic(auto, unfolding(crate::specs::Command::asked_of))]
+fn asked_of(words: &[String]) -> Option<More<'_>>
+    ensures value { option_map asked_in result ≡ asked_of (map string_bytes words.now) }
+    ensures room { IfSome result IsInRam }
+{
+    match words {
+        [] => Some(More {
+            dump: None,
+            script: None,
+        }),
+        [option, word] => one_asked(option.as_str(), word.as_str()),
+        [option, word, second, name] => both_asked(
+            option.as_str(),
+            word.as_str(),
+            second.as_str(),
+            name.as_str(),
+        ),
+        _ => None,
+    }
+}
+
+/// The run that four words and what is asked for behind them ask for, if the words are in its grammar.
 fn order<'a>(
     verb: &str,
     image: &'a str,
     option: &str,
     digits: &str,
-    dump: Option<Span>,
+    asked: Option<More<'a>>,
 ) -> Option<Command<'a>>
-    requires { IfSome dump (λ span. span.at + span.len ≤ ram_size) }
-    ensures value { option_map order_in result ≡ order_by verb.now image.now option.now digits.now dump }
+    requires { IfSome asked IsInRam }
+    ensures value { option_map order_in result ≡ option_and_then (order_by verb.now image.now option.now digits.now) (option_map asked_in asked.entry) }
     ensures bounded { IfSome result IsBounded }
 {
+    let Some(more) = asked else {
+        return None;
+    };
     if verb == "run" && is_name(image) && option == "--cycles" {
         match number_up_to(MOST_CYCLES, digits) {
             Some(cycles) => Some(Command::Run(RunCommand {
                 image,
                 cycles,
-                dump,
+                more,
             })),
             None => None,
         }
@@ -164,25 +241,13 @@ pub fn read_words(words: &[String]) -> Option<Command<'_>>
 {
     match words {
         [verb, name] => file_order(verb.as_str(), name.as_str()),
-        [verb, image, option, digits] => order(
+        [verb, image, option, digits, more @ ..] => order(
             verb.as_str(),
             image.as_str(),
             option.as_str(),
             digits.as_str(),
-            None,
+            asked_of(more),
         ),
-        [verb, image, option, digits, second, word] => {
-            match dump_by(second.as_str(), word.as_str()) {
-                Some(span) => order(
-                    verb.as_str(),
-                    image.as_str(),
-                    option.as_str(),
-                    digits.as_str(),
-                    Some(span),
-                ),
-                None => None,
-            }
-        }
         _ => None,
     }
 }

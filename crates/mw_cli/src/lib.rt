@@ -9,6 +9,7 @@ mod process;
 mod refusal;
 mod report;
 mod run;
+mod script;
 mod status;
 mod transfer;
 

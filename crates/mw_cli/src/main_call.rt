@@ -2,9 +2,9 @@ ghost use Rattle.std.specs.Prelude.{◌≡◌, map, string_bytes, OnOk, IfOk, If
 ghost use Rattle.mw_io.specs.Outside.{Counts};
 ghost use Rattle.mw_cli.specs.declared.status.Status.TheVariants.{ReadFault};
 ghost use Rattle.mw_cli.specs.Command.{order_in, order_of, files_of, IsBounded};
-ghost use Rattle.mw_cli.specs.Outside.{change, Opens};
+ghost use Rattle.mw_cli.specs.Outside.{change};
 ghost use Rattle.mw_cli.specs.Numbers.{status_of};
-ghost use Rattle.mw_cli.specs.Answers.{Gives, Written, Says, Faults, Answers, GoesThrough};
+ghost use Rattle.mw_cli.specs.Answers.{Gives, Goes, Written, Says, Faults, Answers, GoesThrough};
 ghost use Rattle.mw_cli.specs.Stages.{ending, GivesNothing, HasCause};
 
 use crate::assembly::image_of;
@@ -43,7 +43,7 @@ fn output_of<'a, H: Host>(
     ensures gives { IfOk result (Gives (change (H.state host.old) (H.state host.new)) (order_in command.now)) }
     ensures refused { IfErr result (GivesNothing (change (H.state host.old) (H.state host.new)) (order_in command.now)) }
     ensures faults { Counts (H.state host.old).faults (H.state host.new).faults (ending result ≡ ReadFault) }
-    ensures opens { Opens (change (H.state host.old) (H.state host.new)) (files_of (order_in command.now)) }
+    ensures goes { Goes (change (H.state host.old) (H.state host.new)) (files_of (order_in command.now)) (ending result) }
     ensures same_files { (H.state host.new).files ≡ (H.state host.old).files }
     ensures stays_sound { IsTrue (H.state host.old).is_sound → IsTrue (H.state host.new).is_sound }
 {
@@ -66,7 +66,7 @@ fn fulfil<'a, H: Host, S: Sink>(
     ensures written { OnOk result (Written (change (H.state host.old) (H.state host.new)) (change (S.state out.old) (S.state out.new)) (order_in command.now)) }
     ensures refused { IfErr result (HasCause (change (H.state host.old) (H.state host.new)) (change (S.state out.old) (S.state out.new)) (order_in command.now)) }
     ensures faults { Faults (change (H.state host.old) (H.state host.new)) (change (S.state out.old) (S.state out.new)) (ending result) }
-    ensures opens { Opens (change (H.state host.old) (H.state host.new)) (files_of (order_in command.now)) }
+    ensures goes { Goes (change (H.state host.old) (H.state host.new)) (files_of (order_in command.now)) (ending result) }
     ensures same_files { (H.state host.new).files ≡ (H.state host.old).files }
     ensures stays_sound { IsTrue (H.state host.old).is_sound → IsTrue (H.state host.new).is_sound }
 {

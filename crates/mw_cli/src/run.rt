@@ -1,38 +1,49 @@
 ghost use Rattle.std.specs.Prelude.{◌≡◌, ◌+◌, ◌≤◌, length, IfOk, IfErr, IfSome, IsTrue};
 ghost use Rattle.mw_bus.specs.Memory.{ram_size};
-ghost use Rattle.mw_cli.specs.Command.{Run, run_in, files_of};
-ghost use Rattle.mw_isa.specs.Start.{boot_of};
+ghost use Rattle.mw_cli.specs.Command.{Run, run_in, files_of, IsInRam};
 ghost use Rattle.mw_cli.specs.Headline.{run_of, SpellsRun};
 ghost use Rattle.mw_io.specs.Outside.{Counts};
 ghost use Rattle.mw_cli.specs.declared.status.Status.TheVariants.{ReadFault};
-ghost use Rattle.mw_cli.specs.Outside.{change, Opens};
-ghost use Rattle.mw_cli.specs.Answers.{Gives};
-ghost use Rattle.mw_cli.specs.Stages.{ending, IsRunRefusal, GivesNothing};
+ghost use Rattle.mw_cli.specs.Outside.{change};
+ghost use Rattle.mw_cli.specs.Answers.{Gives, Goes};
+ghost use Rattle.mw_cli.specs.Stages.{ending, IsRunRefusal, GivesNothing, IsStart};
 
 use crate::command::RunCommand;
 use crate::refusal::Refusal;
+use crate::script::script_of_file;
 use crate::transfer::read_image;
 use mw_bits::Bytes;
 use mw_board::{RunFault, simulate};
 use mw_io::Host;
 use mw_isa::Span;
 use mw_trace::print;
+use mw_uart::Script;
 use std::alloc::Global;
 
-/// The text of a run of an image.
+/// What the board is started with.
+#[derive(Drop)]
+struct Start {
+    /// The bytes that stand in RAM. They fit it.
+    image: Vec<u8>,
+    /// The bytes that arrive at the UART.
+    script: Script,
+}
+
+/// The text of a run of an image and a script.
 fn text_of_run<'a>(
     alloc: Global,
     image: &[u8],
+    script: &Script,
     cycles: u64,
     dump: Option<Span>,
 ) -> Result<Bytes, Refusal<'a>>
     requires fits { length image.now ≤ ram_size }
     requires few { cycles ≤ 4000000 }
     requires room { IfSome dump (λ span. span.at + span.len ≤ ram_size) }
-    ensures text { IfOk result (SpellsRun (run_of image.now cycles dump)) }
-    ensures refused { IfErr result (IsRunRefusal (boot_of image.now) cycles) }
+    ensures text { IfOk result (SpellsRun (run_of image.now script.now cycles dump)) }
+    ensures refused { IfErr result (IsRunRefusal (record { image = image.now; script = script.now }) cycles) }
 {
-    let run = match simulate(alloc, image, cycles) {
+    let run = match simulate(alloc, image, script, cycles) {
         Ok(run) => run,
         Err(RunFault::ImageTooLarge) => return Err(Refusal::TooLarge),
         Err(RunFault::NoMemory) => return Err(Refusal::OutOfMemory),
@@ -44,18 +55,16 @@ fn text_of_run<'a>(
     }
 }
 
-/// Reads the image of a command and runs it: the text of the run. An `Err` says which of the two failed.
-pub fn run<'a, H: Host>(
+/// Reads the image of a command, and then its script. No byte arrives where it names none.
+fn read_start<'a, H: Host>(
     alloc: Global,
     command: &RunCommand<'a>,
     host: &mut H,
-) -> Result<Bytes, Refusal<'a>>
-    requires few { command.now.cycles ≤ 4000000 }
-    requires room { IfSome command.now.dump (λ span. span.at + span.len ≤ ram_size) }
-    ensures gives { IfOk result (Gives (change (H.state host.old) (H.state host.new)) (Run (run_in command.now))) }
+) -> Result<Start, Refusal<'a>>
+    ensures start { IfOk result (λ start. IsStart (change (H.state host.old) (H.state host.new)) (run_in command.now) start.image.items start.script) }
     ensures refused { IfErr result (GivesNothing (change (H.state host.old) (H.state host.new)) (Run (run_in command.now))) }
     ensures faults { Counts (H.state host.old).faults (H.state host.new).faults (ending result ≡ ReadFault) }
-    ensures opens { Opens (change (H.state host.old) (H.state host.new)) (files_of (Run (run_in command.now))) }
+    ensures goes { Goes (change (H.state host.old) (H.state host.new)) (files_of (Run (run_in command.now))) (ending result) }
     ensures same_files { (H.state host.new).files ≡ (H.state host.old).files }
     ensures stays_sound { IsTrue (H.state host.old).is_sound → IsTrue (H.state host.new).is_sound }
 {
@@ -63,5 +72,42 @@ pub fn run<'a, H: Host>(
         Ok(image) => image,
         Err(refusal) => return Err(refusal),
     };
-    text_of_run(alloc, image.as_slice(), command.cycles, command.dump)
+    match command.more.script {
+        None => Ok(Start {
+            image,
+            script: Script::new(alloc),
+        }),
+        Some(name) => match script_of_file(alloc, name, host) {
+            Ok(script) => Ok(Start { image, script }),
+            Err(refusal) => Err(refusal),
+        },
+    }
+}
+
+/// Reads the files of a command and runs it: the text of the run. An `Err` says what failed.
+pub fn run<'a, H: Host>(
+    alloc: Global,
+    command: &RunCommand<'a>,
+    host: &mut H,
+) -> Result<Bytes, Refusal<'a>>
+    requires few { command.now.cycles ≤ 4000000 }
+    requires room { IsInRam command.now.more }
+    ensures gives { IfOk result (Gives (change (H.state host.old) (H.state host.new)) (Run (run_in command.now))) }
+    ensures refused { IfErr result (GivesNothing (change (H.state host.old) (H.state host.new)) (Run (run_in command.now))) }
+    ensures faults { Counts (H.state host.old).faults (H.state host.new).faults (ending result ≡ ReadFault) }
+    ensures goes { Goes (change (H.state host.old) (H.state host.new)) (files_of (Run (run_in command.now))) (ending result) }
+    ensures same_files { (H.state host.new).files ≡ (H.state host.old).files }
+    ensures stays_sound { IsTrue (H.state host.old).is_sound → IsTrue (H.state host.new).is_sound }
+{
+    let start = match read_start(alloc, command, host) {
+        Ok(start) => start,
+        Err(refusal) => return Err(refusal),
+    };
+    text_of_run(
+        alloc,
+        start.image.as_slice(),
+        &start.script,
+        command.cycles,
+        command.more.dump,
+    )
 }

@@ -8,4 +8,6 @@ mod files;
 #[cfg(test)]
 mod refusals;
 #[cfg(test)]
+mod scripts;
+#[cfg(test)]
 mod shared;

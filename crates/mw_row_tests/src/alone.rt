@@ -2,6 +2,7 @@ use mw_bus::Ram;
 use mw_isa::{Regs, State};
 use mw_soc::Devices;
 use mw_step::{Prepared, carry_out, prepare};
+use mw_uart::Script;
 use std::alloc::{AllocError as NoMemory, Global};
 
 /// What stands in each general purpose register that a line doesn't name.
@@ -9,7 +10,10 @@ pub const OTHER: u64 = 0xdead_beef_0bad_f00d;
 
 /// The state in which an instruction is carried out first.
 pub fn first(alloc: Global) -> Result<State, NoMemory> {
-    Ok(State::new(Ram::new(alloc, &[])?, Devices::new(alloc, 0)?))
+    Ok(State::new(
+        Ram::new(alloc, &[])?,
+        Devices::new(alloc, Script::new(alloc), 0)?,
+    ))
 }
 
 /// Lays a word and the one behind it at an address, where the run goes on. All registers are at their start, but that

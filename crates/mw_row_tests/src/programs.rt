@@ -1,4 +1,5 @@
 use mw_board::simulate;
+use mw_uart::Script;
 use std::alloc::{AllocError as NoMemory, Global};
 use std::test::Fail;
 
@@ -132,7 +133,7 @@ fn programs_of_results(rt: HostRuntime) -> Result<(), Fail> {
     for Program(words, n, xer, cr, contents) in &PROGRAMS {
         assert!(rt; *n <= 16);
         let image = image_of(alloc, *words)?;
-        match simulate(alloc, image.as_slice(), *n) {
+        match simulate(alloc, image.as_slice(), &Script::new(alloc), *n) {
             Ok(run) => {
                 assert_eq!(rt; run.state.regs.xer, *xer, "XER after {n} of {words:?}");
                 assert_eq!(rt;

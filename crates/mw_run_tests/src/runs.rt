@@ -3,6 +3,7 @@ use mw_board::simulate;
 use mw_cli::{Status, mw_main};
 use mw_io::{SureHost, SureSink};
 use mw_trace::print;
+use mw_uart::Script;
 use std::alloc::{AllocError, Global};
 use std::test::Fail;
 
@@ -65,7 +66,7 @@ fn what_is_written_is_what_is_simulated(rt: HostRuntime) -> Result<(), Fail> {
     let words = words_of(alloc, "run img --cycles 20000")?;
     let status = mw_main(alloc, words.as_slice(), &mut host, &mut out, &mut err);
     assert_eq!(rt; status, Status::Done);
-    match simulate(alloc, LOOP, 20000) {
+    match simulate(alloc, LOOP, &Script::new(alloc), 20000) {
         Ok(run) => {
             let text = print(alloc, run.events.as_slice(), &run.end, &run.state, None)?;
             assert!(rt; out.as_slice() == text.as_slice());

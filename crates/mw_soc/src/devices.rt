@@ -1,9 +1,9 @@
-ghost use Rattle.std.specs.Prelude.{◌≡◌, ◌+◌, ◌-◌, ◌/◌, ◌%◌, ◌^◌, ◌≤◌, ◌++◌, [], length, replicate, IfOk};
+ghost use Rattle.std.specs.Prelude.{◌≡◌, ◌+◌, ◌-◌, ◌/◌, ◌%◌, ◌^◌, ◌≤◌, ◌++◌, length, replicate, IfOk};
 ghost use Rattle.mw_soc.specs.Devices.{cycle_of, dec_of, dec_stands, devices_at, start_devices, with_dec};
 ghost use Rattle.mw_soc.specs.Map.{after_device_load, after_device_store, device_loaded, is_system, is_uart};
 
 use crate::system::system_loaded;
-use mw_uart::Uart;
+use mw_uart::{Script, Uart};
 use std::alloc::{AllocError as NoMemory, Global};
 use std::marker::Model;
 
@@ -55,14 +55,14 @@ fn ones(width: u8) -> [u8; 8]
 }
 
 impl Devices {
-    /// The devices at cycle 0, with memory for `room` bytes of output, and the decrementer at its largest
-    /// positive number. No byte arrives. The only error is want of memory.
-    pub fn new(alloc: Global, room: u64) -> Result<Devices, NoMemory>
+    /// The devices at cycle 0, with a script of which no byte has arrived at the UART, with memory for `room`
+    /// bytes of output, and the decrementer at its largest positive number. The only error is want of memory.
+    pub fn new(alloc: Global, script: Script, room: u64) -> Result<Devices, NoMemory>
         requires { room ≤ 2 ^ 32 }
-        ensures { IfOk result (λ d. d ≡ record { devices = start_devices []; room = room }) }
+        ensures { IfOk result (λ d. d ≡ record { devices = start_devices script; room = room }) }
     {
         Ok(Devices {
-            uart: Uart::new(alloc, room)?,
+            uart: Uart::new(alloc, script, room)?,
             dec: 0x7FFF_FFFF,
             dec_at: 0,
         })

@@ -1,14 +1,19 @@
--- The laws of the UART at any cycle.
-use Rattle.std.proofs.Common.{◌≡◌, ℕ, zero, suc, ◌+◌, ◌-◌, ◌*◌, ◌/◌, ◌%◌, ◌^◌, ◌<◌, ◌≤◌, ◌==◌, Bool, true, false, ◌||◌, cond, nat_lt, nat_le, ⊎_elim, List, [], ◌∷◌, ◌++◌, length, map, take, drop, refl, sym, ap, ap₂, subst, zero-add, ◌∙◌, arith, append_assoc, take-add, drop-drop, length-drop, length-take-le, le-leb}
+-- The laws of the UART at any cycle, and of the text of a script.
+use Rattle.std.proofs.Common.{◌≡◌, ℕ, suc, ◌+◌, ◌-◌, ◌*◌, ◌/◌, ◌%◌, ◌^◌, ◌<◌, ◌≤◌, ◌==◌, Bool, true, false, ◌||◌, cond, nat_lt, nat_le, ⊎_elim, List, [], ◌∷◌, ◌++◌, length, map, filter, take, drop, Ok, Err, refl, sym, ap, ap₂, subst, zero-add, ◌∙◌, arith, append_assoc, take-add, drop-drop, length-drop, length-take-le, le-leb}
 use Rattle.std.specs.Int.{w64, to_le_bytes}
 use Rattle.std.proofs.lemmas.List.{map-append}
+use Rattle.std.proofs.Math.Seq.{take-nil}
 use Rattle.std.proofs.lemmas.Bool.{eqb-true, or_cases, cond_both, cases_lt, cond-true, cond-false, lt-leb}
 use Rattle.mw_uart.specs.UartData.{UartData, period_of}
 use Rattle.mw_uart.specs.UartAt.{arrived_by, sent_by, next_due, uart_at}
 use Rattle.mw_uart.specs.Registers.{slot_of, loaded, after_load, after_store, with_number, with_tx}
 use Rattle.byteorder.specs.Endian.{little_number}
+use Rattle.mw_uart.specs.Pairs.{DontFall, RisesTo}
+use Rattle.mw_uart.specs.Script.{line_of, place_behind, read_from, script_of, text_limit}
 use Rattle.mw_uart.specs.Inside.{IsSent}
 use Rattle.mw_uart.proofs.SentLemmas.{same_parts, is_sent, sent_once, due_later, due_none}
+use Rattle.mw_uart.proofs.ReadLemmas.{script-long}
+use Rattle.mw_uart.proofs.ArrivalLemmas.{arrived_more, arrived_none, take_then}
 
 -- what is sent by a cycle and then by a later one is sent by the later one
 sent_then : (waiting due period cycle later m n : ℕ) → cycle ≤ later → IsSent waiting due period cycle m → IsSent (waiting - m) (next_due waiting due period m) period later n → IsSent waiting due period later (m + n)
@@ -69,16 +74,6 @@ due_then waiting due period m n few rest =
     ∙ sym (due_none waiting due period (m + n) (omega arith)))
     (cases_lt n (waiting - m))
 
--- the script's next byte has arrived
-arrived_more : (cycle : ℕ) (pair : ℕ × ℕ) (rest : List (ℕ × ℕ)) → pair.0 ≤ cycle → arrived_by cycle (pair ∷ rest) ≡ 1 + arrived_by cycle rest
-unfolding arrived_by
-arrived_more cycle pair rest early = cond-true (nat_le pair.0 cycle) (1 + arrived_by cycle rest) 0 (le-leb pair.0 cycle early)
-
--- it hasn't
-arrived_none : (cycle : ℕ) (pair : ℕ × ℕ) (rest : List (ℕ × ℕ)) → cycle < pair.0 → arrived_by cycle (pair ∷ rest) ≡ 0
-unfolding arrived_by
-arrived_none cycle pair rest late = cond-false (nat_le pair.0 cycle) (1 + arrived_by cycle rest) 0 (lt-leb pair.0 cycle late)
-
 -- nothing arrives from an empty script
 arrived_empty : (cycle later : ℕ) → arrived_by cycle [] + arrived_by later (drop (arrived_by cycle []) []) ≡ arrived_by later []
 unfolding arrived_by
@@ -100,12 +95,6 @@ arrived_sum cycle later (pair ∷ rest) after =
     ap (λ (k : ℕ). k + arrived_by later (drop k (pair ∷ rest))) (arrived_more cycle pair rest early ∙ e)
     ∙ ends)
     (cases_lt cycle pair.0)
-
--- a front of a front and more
-take_then : (k : ℕ) (xs ys : List ℕ) → take k (take k xs ++ ys) ≡ take k (xs ++ ys)
-take_then zero xs ys = refl
-take_then (suc k) [] ys = refl
-take_then (suc k) (x ∷ xs) ys = ap (λ (zs : List ℕ). x ∷ zs) (take_then k xs ys)
 
 -- what has arrived after two steps
 received_then : (script : List (ℕ × ℕ)) (received : List ℕ) (m n k : ℕ) → m + n ≡ k → take 16 (take 16 (received ++ map (λ pair. pair.1) (take m script)) ++ map (λ pair. pair.1) (take n (drop m script))) ≡ take 16 (received ++ map (λ pair. pair.1) (take k script))
@@ -152,6 +141,39 @@ uart_at-then uart cycle later after =
     (drop_then uart.sending m _ _ both)
     dues
     (output_then uart.output uart.sending m _ _ both)
+
+-- a cycle that the script has reached
+abbrev pub has_come : ℕ → ℕ × ℕ → Bool
+has_come cycle pair = nat_le pair.0 cycle
+
+-- nothing has come of a script that begins later
+none_come : (cycle low : ℕ) (script : List (ℕ × ℕ)) → cycle < low → DontFall low script → filter (has_come cycle) script ≡ []
+none_come cycle low [] late is = refl
+none_come cycle low (pair ∷ rest) late is =
+    let after = is.0 in
+    cond-false (nat_le pair.0 cycle) (pair ∷ filter (has_come cycle) rest) (filter (has_come cycle) rest) (lt-leb pair.0 cycle (omega arith))
+    ∙ none_come cycle pair.0 rest (omega arith) is.1
+
+-- what has arrived by a cycle is what the script has with a cycle up to it, all of it and in order
+pub arrived-come : (cycle low : ℕ) (script : List (ℕ × ℕ)) → DontFall low script → take (arrived_by cycle script) script ≡ filter (has_come cycle) script
+arrived-come cycle low [] is = take-nil (arrived_by cycle [])
+arrived-come cycle low (pair ∷ rest) is =
+    ⊎_elim
+    (λ (late : cycle < pair.0).
+    ap (λ (k : ℕ). take k (pair ∷ rest)) (arrived_none cycle pair rest late)
+    ∙ sym (cond-false (nat_le pair.0 cycle) (pair ∷ filter (has_come cycle) rest) (filter (has_come cycle) rest) (lt-leb pair.0 cycle late)
+    ∙ none_come cycle pair.0 rest late is.1))
+    (λ (early : pair.0 ≤ cycle).
+    let e : 1 + arrived_by cycle rest ≡ suc (arrived_by cycle rest) = omega arith in
+    ap (λ (k : ℕ). take k (pair ∷ rest)) (arrived_more cycle pair rest early ∙ e)
+    ∙ ap (λ (ps : List (ℕ × ℕ)). pair ∷ ps) (arrived-come cycle pair.0 rest is.1)
+    ∙ sym (cond-true (nat_le pair.0 cycle) (pair ∷ filter (has_come cycle) rest) (filter (has_come cycle) rest) (le-leb pair.0 cycle early)))
+    (cases_lt cycle pair.0)
+
+-- the cycles of each script don't fall
+pub rises-dont_fall : (low high : ℕ) (script : List (ℕ × ℕ)) → RisesTo low high script → DontFall low script
+rises-dont_fall low high [] is = tt
+rises-dont_fall low high (pair ∷ rest) is = (is.0, rises-dont_fall pair.0 high rest is.2)
 
 -- the UART stands at the cycle that it is brought to
 pub cycle-uart_at : (uart : UartData) (cycle : ℕ) → (uart_at uart cycle).cycle ≡ cycle
@@ -232,3 +254,12 @@ uart_at-rising uart cycle [] r = refl
 uart_at-rising uart cycle (next ∷ cycles) r =
     let later = first-last next cycles r.1 in
     uart_at-rising (uart_at uart cycle) next cycles r.1 ∙ uart_at-then uart cycle (last_of next cycles) (let here = r.0 in omega arith)
+
+-- an empty text is a script of which no byte arrives
+pub script_of-empty : script_of [] ≡ Ok []
+unfolding script_of read_from line_of
+script_of-empty = refl
+
+-- a text that is too long is refused behind its first bytes, as many as it may have
+pub script_of-long : (text : List ℕ) → text_limit < length text → script_of text ≡ Err (place_behind (take text_limit text))
+script_of-long text long = script-long text long

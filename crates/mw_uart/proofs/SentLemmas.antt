@@ -1,5 +1,5 @@
 -- How many bytes are sent by a cycle.
-use Rattle.std.proofs.Common.{List, subst, length-take-le, length-append, length-drop, [], ◌++◌, length, take, drop, take_all, append-nil, suc-mul, mul-le-mul_left, ◌≡◌, ℕ, suc, ◌+◌, ◌-◌, ◌*◌, ◌/◌, ◌%◌, ◌<◌, ◌≤◌, ◌⊎◌, ⊎_elim, ◌==◌, min, nat_lt, refl, sym, ap, ◌∙◌, arith, mul-le-mul_right, div-add-mod', ltb-true, ltb-false}
+use Rattle.std.proofs.Common.{List, subst, length-take-le, length-append, length-drop, ◌++◌, length, take, drop, suc-mul, mul-le-mul_left, ◌≡◌, ℕ, suc, ◌+◌, ◌-◌, ◌*◌, ◌/◌, ◌%◌, ◌<◌, ◌≤◌, ◌⊎◌, ⊎_elim, ◌==◌, min, nat_lt, refl, sym, ap, ◌∙◌, arith, mul-le-mul_right, div-add-mod', ltb-true, ltb-false}
 use Rattle.std.proofs.lemmas.Bool.{cases_lt, cases_order, cond_both, cond-true, cond-false, eq-eqb, ne_eqb}
 use Rattle.std.proofs.lemmas.Nat.{mod_below}
 use Rattle.mw_uart.specs.UartData.{period_of}
@@ -112,21 +112,17 @@ timed sent waiting due cycle room later n period was after fits long short is =
       small = was.small;
     }
 
--- no byte arrives from an empty script
-pub none_arrive : (cycle : ℕ) (received : List ℕ) → length received ≤ 16 → take 16 (received ++ arrivals cycle []) ≡ received
-unfolding arrived_by
-none_arrive cycle received few = ap (take 16) (append-nil received) ∙ take_all 16 received few
-
 -- alike in each part that a cycle changes
 pub same_parts : (cycle div enable : ℕ) (s t : List (ℕ × ℕ)) (r q w x o p : List ℕ) (d e : ℕ) → s ≡ t → r ≡ q → w ≡ x → d ≡ e → o ≡ p → parts cycle s r w d div enable o ≡ parts cycle t q x e div enable p
 same_parts cycle div enable s t r q w x o p d e a b f g h = rw (a, b, f, g, h) refl
 
--- the UART with no byte to arrive brought to a cycle, by its parts
-pub advanced : (cycle later due div enable n due_next : ℕ) (received sending output sending_next output_next : List ℕ) → length received ≤ 16 → n ≡ sent_by (length sending) due (period_of div) later → due_next ≡ next_due (length sending) due (period_of div) n → sending_next ≡ drop n sending → output_next ≡ output ++ take n sending → parts later [] received sending_next due_next div enable output_next ≡ uart_at (parts cycle [] received sending due div enable output) later
-unfolding uart_at arrived_by
-advanced cycle later due div enable n due_next received sending output sending_next output_next few counts dues sends outputs =
-    same_parts later div enable [] [] received _ sending_next _ output_next _ due_next _ refl
-    (sym (none_arrive later received few))
+-- the UART brought to a cycle, by its parts
+pub advanced : (cycle later due div enable n due_next : ℕ) (script script_next : List (ℕ × ℕ)) (received sending output received_next sending_next output_next : List ℕ) → script_next ≡ drop (arrived_by later script) script → received_next ≡ take 16 (received ++ arrivals later script) → n ≡ sent_by (length sending) due (period_of div) later → due_next ≡ next_due (length sending) due (period_of div) n → sending_next ≡ drop n sending → output_next ≡ output ++ take n sending → parts later script_next received_next sending_next due_next div enable output_next ≡ uart_at (parts cycle script received sending due div enable output) later
+unfolding uart_at
+advanced cycle later due div enable n due_next script script_next received sending output received_next sending_next output_next comes receives counts dues sends outputs =
+    same_parts later div enable _ _ _ _ _ _ _ _ _ _
+    comes
+    receives
     (sends ∙ ap (λ (k : ℕ). drop k sending) counts)
     (dues ∙ ap (next_due (length sending) due (period_of div)) counts)
     (outputs ∙ ap (λ (k : ℕ). output ++ take k sending) counts)

@@ -1,6 +1,10 @@
--- The UART's parts, and what is true of them at every time. Only this crate's proofs need it.
-use Rattle.std.specs.Prelude.{◌≡◌, ℕ, ◌+◌, ◌*◌, ◌^◌, ◌<◌, ◌≤◌, List, length}
+-- The UART's parts and the script's, and what is true of them at every time. Only this crate's proofs need it.
+use Rattle.std.specs.Prelude.{◌≡◌, ℕ, ◌+◌, ◌*◌, ◌^◌, ◌<◌, ◌≤◌, nat_lt, if◌then◌else◌, List, [], ◌∷◌, ◌++◌, length, ⊤}
 use Rattle.circular_buffer.specs.Buffer.{Buffer}
+use Rattle.mw_uart.specs.declared.line.LineFault.{LineFault}
+use Rattle.mw_uart.specs.declared.line.LineFault.TheVariants.{Refused, NoMemory}
+use Rattle.mw_uart.specs.declared.script.BadScript.{BadScript}
+use Rattle.mw_uart.specs.declared.script.BadScript.TheVariants.{Bad, NoMemory as NoRoom}
 use Rattle.mw_uart.specs.UartData.{UartData, Roomy}
 
 -- the data by its parts
@@ -14,6 +18,10 @@ roomy room uart = record { uart = uart; room = room }
 -- a queue of at most 16 bytes
 abbrev pub IsQueue : Buffer ℕ → Type 0
 IsQueue queue = (queue.capacity ≡ 16) × (length queue.items ≤ 16)
+
+-- a byte is received, or lost where 16 wait
+abbrev pub with_received : List ℕ → ℕ → List ℕ
+with_received received byte = if nat_lt (length received) 16 then received ++ byte ∷ [] else received
 
 -- the time that the output took, so that there is always room for it: how many bytes are sent, how many wait, when the first of these is sent, the cycle, and the room
 pub record IsTimed (sent waiting due cycle room : ℕ) : Type 0 where
@@ -33,3 +41,13 @@ pub record IsSent (waiting due period cycle sent : ℕ) : Type 0 where
   pub most : sent ≤ waiting
   pub rest : sent < waiting → cycle < due + sent * period
   pub done : 0 < sent → due + sent * period ≤ cycle + period
+
+-- a fact on the refused column of a line; want of memory says nothing
+abbrev pub IfRefused : LineFault → (ℕ → Type 0) → Type 0
+IfRefused (Refused column) P = P column
+IfRefused NoMemory P = ⊤
+
+-- the fault of the line of this number
+abbrev pub fault_at : ℕ → LineFault → BadScript
+fault_at number (Refused column) = Bad number column
+fault_at number NoMemory = NoRoom

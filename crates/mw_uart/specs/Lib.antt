@@ -1,4 +1,6 @@
 pub mod UartData
 pub mod UartAt
 pub mod Registers
+pub mod Script
+pub mod Pairs
 pub mod Inside

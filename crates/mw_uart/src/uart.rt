@@ -1,9 +1,11 @@
 ghost use Rattle.std.specs.Prelude.{◌≡◌, ℕ, ◌+◌, ◌-◌, ◌*◌, ◌/◌, ◌%◌, ◌^◌, ◌<◌, ◌≤◌, [], ◌++◌, length, replicate, take, drop, slice_index, if◌then◌else◌, IfOk, vec_len, vec_capacity};
 ghost use Rattle.std.specs.Int.{w64, to_le_bytes};
 ghost use Rattle.mw_uart.specs.UartData.{start_uart, period_of};
-ghost use Rattle.mw_uart.specs.UartAt.{uart_at, sent_by, next_due};
+ghost use Rattle.mw_uart.specs.UartAt.{arrivals, arrived_by, uart_at, sent_by, next_due};
+ghost use Rattle.mw_uart.specs.Inside.{IsQueue, with_received};
 ghost use Rattle.mw_uart.specs.Registers.{status_of, slot_of, loaded, after_load, with_tx, with_number, after_store, line_of};
 
+use crate::script::Script;
 use byteorder::{ByteOrder, LittleEndian};
 use circular_buffer::HeapCircularBuffer;
 use std::alloc::{AllocError as NoMemory, Global};
@@ -17,6 +19,10 @@ const PLACES: usize = 16;
 pub struct Uart {
     /// The cycle that it stands at, counted from 0.
     cycle: u64,
+    /// The bytes that arrive, each behind its cycle.
+    script: Script,
+    /// How many of these have arrived.
+    next: usize,
     /// The bytes that were received and are not read yet, the oldest first.
     received: HeapCircularBuffer<u8>,
     /// The bytes that wait to be sent, the oldest first.
@@ -34,15 +40,15 @@ pub struct Uart {
 }
 
 impl Model for Uart {
-    ghost use Rattle.std.specs.Prelude.{◌≤◌, ◌<◌, [], length, vec_capacity};
+    ghost use Rattle.std.specs.Prelude.{◌≤◌, ◌<◌, length, drop, vec_capacity};
     ghost use Rattle.mw_uart.specs.UartData.{Roomy};
     ghost use Rattle.mw_uart.specs.Inside.{IsQueue, IsTimed};
 
     ghost Value = { Roomy };
 
-    ghost view = { λ u. record { uart = record { cycle = u.cycle; script = []; received = u.received.items; sending = u.sending.items; due = u.due; div = u.div; enable = u.enable; output = u.output.items }; room = u.room } };
+    ghost view = { λ u. record { uart = record { cycle = u.cycle; script = drop u.next u.script; received = u.received.items; sending = u.sending.items; due = u.due; div = u.div; enable = u.enable; output = u.output.items }; room = u.room } };
 
-    ghost invariant = { λ u. IsQueue u.received × IsQueue u.sending × (u.enable < 4) × (u.room ≤ vec_capacity u.output) × IsTimed (length u.output.items) (length u.sending.items) u.due u.cycle u.room };
+    ghost invariant = { λ u. (u.next ≤ length u.script) × IsQueue u.received × IsQueue u.sending × (u.enable < 4) × (u.room ≤ vec_capacity u.output) × IsTimed (length u.output.items) (length u.sending.items) u.due u.cycle u.room };
 }
 
 /// How many of `waiting` bytes are sent by a cycle, the first of them at `due` and one more each
@@ -99,6 +105,34 @@ fn transmit(sending: &mut HeapCircularBuffer<u8>, output: &mut Vec<u8>, count: u
     };
 }
 
+/// Puts a byte into the receive queue, or drops it where that is full.
+fn receive(received: &mut HeapCircularBuffer<u8>, byte: u8)
+    requires { IsQueue received.old }
+    ensures items { received.new.items ≡ with_received received.old.items byte }
+    ensures queue { IsQueue received.new }
+{
+    if !received.is_full() {
+        let _ = received.push_back(byte);
+    }
+}
+
+/// Receives those of the bytes still to arrive whose cycle has come, and tells how many they are.
+fn arrive(pending: &[(u64, u8)], cycle: u64, received: &mut HeapCircularBuffer<u8>) -> usize
+    requires { IsQueue received.old }
+    ensures count { result ≡ arrived_by cycle pending.now }
+    ensures within { result ≤ length pending.now }
+    ensures items { received.new.items ≡ take 16 (received.old.items ++ arrivals cycle pending.now) }
+    ensures queue { IsQueue received.new }
+{
+    for (count, pair) in pending.iter().enumerate() {
+        if pair.0 > cycle {
+            return count;
+        }
+        receive(received, pair.1);
+    }
+    pending.len()
+}
+
 /// How many cycles a byte takes from when it is first to when it is sent, by CLOCK_DIV.
 fn period_of(div: u16) -> u64
     ensures { result ≡ period_of div }
@@ -126,17 +160,19 @@ fn covered(slot: u64, at: usize, width: usize) -> [u8; 8]
 }
 
 impl Uart {
-    /// The UART at cycle 0, with memory for `room` bytes of output. No byte arrives. The only error is
-    /// want of memory.
-    pub fn new(alloc: Global, room: u64) -> Result<Uart, NoMemory>
+    /// The UART at cycle 0, with a script of which no byte has arrived, and with memory for `room` bytes of
+    /// output. The only error is want of memory.
+    pub fn new(alloc: Global, script: Script, room: u64) -> Result<Uart, NoMemory>
         requires { room ≤ 2 ^ 32 }
-        ensures { IfOk result (λ u. u ≡ record { uart = start_uart []; room = room }) }
+        ensures { IfOk result (λ u. u ≡ record { uart = start_uart script; room = room }) }
     {
         let received = HeapCircularBuffer::with_capacity(alloc, PLACES)?;
         let sending = HeapCircularBuffer::with_capacity(alloc, PLACES)?;
         let output = Vec::with_capacity(alloc, room as usize)?;
         Ok(Uart {
             cycle: 0,
+            script,
+            next: 0,
             received,
             sending,
             due: 0,
@@ -147,13 +183,16 @@ impl Uart {
         })
     }
 
-    /// Brings the UART to a cycle that isn't before its own: each byte is sent at its cycle.
+    /// Brings the UART to a cycle that isn't before its own: each byte is sent at its cycle, and each byte of the
+    /// script arrives at its cycle, or is lost where 16 wait to be read. It takes no memory.
     #[tactic(auto, unfolding(crate::specs::UartAt::uart_at))]
     pub fn advance(&mut self, cycle: u64)
         requires later { self.old.uart.cycle ≤ cycle }
         requires room { cycle / 160 ≤ self.old.room }
         ensures { self.new ≡ record self.old { uart = uart_at self.old.uart cycle } }
     {
+        let pending = &self.script.as_slice()[self.next..];
+        self.next += arrive(pending, cycle, &mut self.received);
         let waiting = self.sending.len();
         let period = period_of(self.div);
         let count = sent_by(waiting, self.due, period, cycle);

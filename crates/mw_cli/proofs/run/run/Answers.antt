@@ -1,28 +1,30 @@
 use Rattle.std.proofs.Common.{List, ℕ, sym, ◌≤◌, length, subst}
-use Rattle.mw_isa.specs.Start.{boot_of}
-use Rattle.mw_cli.specs.Command.{run_in}
+use Rattle.mw_cli.specs.Command.{run_in, files_of, Run}
 use Rattle.mw_cli.specs.Outside.{change}
-use Rattle.mw_cli.specs.Stages.{IsContent}
-use Rattle.mw_cli.proofs.VerdictLemmas.{run-unread, run-gives, run-refused, run-calm, stayed}
+use Rattle.mw_cli.specs.Stages.{IsStart}
+use Rattle.mw_cli.proofs.VerdictLemmas.{run-gives, run-refused, run-calm, stayed}
+use Rattle.mw_cli.proofs.GoesLemmas.{goes-run}
 use Rattle.mw_cli.proofs.run.run.Goals as goal
 
-pub returns-in-Err-clause-refused : goal.returns-in-Err-clause-refused
-returns-in-Err-clause-refused g c =
-    run-unread (change (g.H.Host.state c.args.host.now) (g.H.Host.state c.read_image.new.host)) (run_in c.args.command.now) c.in-Err.refusal c.in-Err.ensures.opens.opened c.in-Err.ensures.refused
+pub text_of_run-requires-clause-fits : goal.text_of_run-requires-clause-fits
+text_of_run-requires-clause-fits g c = subst (λ (xs : List ℕ). length xs ≤ 16777216) (sym c.as_slice.ensures.value) c.in-Ok.ensures.start.image_fits
 
 pub returns-clause-gives : goal.returns-clause-gives
 returns-clause-gives g c =
-    let host = change (g.H.Host.state c.args.host.now) (g.H.Host.state c.read_image.new.host) in
-    let is : IsContent host c.args.command.now.image.now c.as_slice.result.now = subst (IsContent host c.args.command.now.image.now) (sym c.as_slice.ensures.value) c.in-Ok.ensures.image in
-    run-gives host (run_in c.args.command.now) c.as_slice.result.now c.text_of_run.result is c.text_of_run.ensures.text
+    let host = change (g.H.Host.state c.args.host.now) (g.H.Host.state c.read_start.new.host) in
+    let is = subst (λ (xs : List ℕ). IsStart host (run_in c.args.command.now) xs c.in-Ok.start.script) (sym c.as_slice.ensures.value) c.in-Ok.ensures.start in
+    run-gives host (run_in c.args.command.now) c.as_slice.result.now c.in-Ok.start.script c.text_of_run.result is c.text_of_run.ensures.text
 
 pub returns-clause-refused : goal.returns-clause-refused
 returns-clause-refused g c =
-    let host = change (g.H.Host.state c.args.host.now) (g.H.Host.state c.read_image.new.host) in
-    let is : IsContent host c.args.command.now.image.now c.as_slice.result.now = subst (IsContent host c.args.command.now.image.now) (sym c.as_slice.ensures.value) c.in-Ok.ensures.image in
-    let short : length c.as_slice.result.now ≤ 16777216 = subst (λ (xs : List ℕ). length xs ≤ 16777216) (sym c.as_slice.ensures.value) c.in-Ok.ensures.fits in
-    run-refused host (run_in c.args.command.now) c.as_slice.result.now c.text_of_run.result is short c.text_of_run.ensures.refused
+    let host = change (g.H.Host.state c.args.host.now) (g.H.Host.state c.read_start.new.host) in
+    let is = subst (λ (xs : List ℕ). IsStart host (run_in c.args.command.now) xs c.in-Ok.start.script) (sym c.as_slice.ensures.value) c.in-Ok.ensures.start in
+    run-refused host (run_in c.args.command.now) c.as_slice.result.now c.in-Ok.start.script c.text_of_run.result is c.text_of_run.ensures.refused
 
 pub returns-clause-faults : goal.returns-clause-faults
 returns-clause-faults g c =
-    run-calm (boot_of c.as_slice.result.now) c.args.command.now.cycles (g.H.Host.state c.args.host.now).faults (g.H.Host.state c.read_image.new.host).faults c.text_of_run.result (stayed _ _ c.in-Ok.ensures.faults) c.text_of_run.ensures.refused
+    run-calm (record { image = c.as_slice.result.now; script = c.in-Ok.start.script }) c.args.command.now.cycles (g.H.Host.state c.args.host.now).faults (g.H.Host.state c.read_start.new.host).faults c.text_of_run.result (stayed _ _ c.in-Ok.ensures.faults) c.text_of_run.ensures.refused
+
+pub returns-clause-goes : goal.returns-clause-goes
+returns-clause-goes g c =
+    goes-run (change (g.H.Host.state c.args.host.now) (g.H.Host.state c.read_start.new.host)) (files_of (Run (run_in c.args.command.now))) (record { image = c.as_slice.result.now; script = c.in-Ok.start.script }) c.args.command.now.cycles c.text_of_run.result c.text_of_run.ensures.refused c.in-Ok.ensures.goes

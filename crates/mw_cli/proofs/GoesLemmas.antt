@@ -1,0 +1,150 @@
+-- How far a host goes through the files of an order.
+use Rattle.std.proofs.Common.{◌≡◌, ℕ, ◌≤◌, ◌⊎◌, inl, inr, List, [], ◌∷◌, length, Option, Some, None, Result, Ok, Err, IfErr, IfSome, refl, sym, subst, arith, append-nil}
+use Rattle.std.specs.Option.{option_map_or}
+use Rattle.mw_io.specs.Outside.{HostState, SinkState, RoseBy, IsReadOn, content_of}
+use Rattle.mw_isa.specs.Start.{Boot}
+use Rattle.mw_cli.specs.declared.status.Status.{Status}
+use Rattle.mw_cli.specs.declared.status.Status.TheVariants.{Done, Usage, WriteFault, ImageTooLarge}
+use Rattle.mw_cli.specs.declared.refusal.Refusal.{Refusal}
+use Rattle.mw_cli.specs.declared.refusal.Refusal.TheVariants.{Unreadable, Unwritable, TooLarge, Bad, OutOfMemory, NotBuilt}
+use Rattle.mw_uart.specs.Script.{text_limit}
+use Rattle.mw_cli.specs.Command.{Wanted, Order, script_files, files_of, files_by, order_of}
+use Rattle.mw_cli.specs.Numbers.{status_of}
+use Rattle.mw_cli.specs.Outside.{Change, change, Opens, IsLeft, reach}
+use Rattle.mw_cli.specs.Answers.{Goes}
+use Rattle.mw_cli.specs.Stages.{ending, IsLoadRefusal, IsRunRefusal, IsScriptRefusal, IsWriteRefusal}
+use Rattle.mw_cli.proofs.FileLemmas.{Files}
+
+-- an image that isn't there gives no text
+load-stops : (host : Change HostState) (name : List ℕ) (refusal : Refusal) → IsLoadRefusal host name refusal → (status_of refusal ≡ Done) ⊎ (status_of refusal ≡ WriteFault) → ⊥
+load-stops host name (Unreadable which) cause e = elim e [ inl d ↦ cc | inr w ↦ cc ]
+load-stops host name TooLarge cause e = elim e [ inl d ↦ cc | inr w ↦ cc ]
+load-stops host name (NotBuilt cia) cause e = absurd cause
+load-stops host name (Bad which line column) cause e = absurd cause
+load-stops host name Unwritable cause e = absurd cause
+load-stops host name OutOfMemory cause e = elim e [ inl d ↦ cc | inr w ↦ cc ]
+
+-- where the image isn't there, the other files aren't opened
+pub goes-first : (host : Change HostState) (file : Wanted) (others : List Wanted) (refusal : Refusal) → IsLoadRefusal host file.name refusal → Opens host (file ∷ []) → Goes host (file ∷ others) (status_of refusal)
+goes-first host file others refusal cause opens = (
+  file ∷ [],
+  others,
+  refl,
+  opens,
+  record {
+    to_last = λ e. absurd (load-stops host file.name refusal cause e);
+    no_further = λ e. omega arith;
+    to_first = λ n e. cc;
+  },
+)
+
+-- all are opened
+pub goes-all : (host : Change HostState) (files : List Wanted) (status : Status) → Opens host files → (status ≡ ImageTooLarge → length files ≤ 1) → Goes host files status
+goes-all host files status opens short = (
+  files,
+  [],
+  sym (append-nil files),
+  opens,
+  record {
+    to_last = λ e. refl;
+    no_further = short;
+    to_first = λ n e. refl;
+  },
+)
+
+-- what went to the last goes there with another status
+goes-on : (host : Change HostState) (files : List Wanted) (status : Status) → (status ≡ ImageTooLarge → ⊥) → Goes host files Done → Goes host files status
+goes-on host files status other (opened, others, is, opens, far) = (
+  opened,
+  others,
+  is,
+  opens,
+  record {
+    to_last = λ e. far.to_last (inl refl);
+    no_further = λ e. absurd (other e);
+    to_first = λ n e. far.to_last (inl refl);
+  },
+)
+
+-- a run that has no text isn't one of an image that is too long
+run-other : (boot : Boot) (n : ℕ) (refusal : Refusal) → IsRunRefusal boot n refusal → status_of refusal ≡ ImageTooLarge → ⊥
+run-other boot n (Unreadable which) cause e = absurd cause
+run-other boot n TooLarge cause e = absurd cause
+run-other boot n (NotBuilt cia) cause e = cc
+run-other boot n (Bad name line column) cause e = absurd cause
+run-other boot n Unwritable cause e = absurd cause
+run-other boot n OutOfMemory cause e = cc
+
+pub goes-run : (host : Change HostState) (files : List Wanted) (boot : Boot) (n : ℕ) (r : Result (List ℕ) Refusal) → IfErr r (IsRunRefusal boot n) → Goes host files Done → Goes host files (ending r)
+goes-run host files boot n (Ok text) cause goes = goes
+goes-run host files boot n (Err refusal) cause goes = goes-on host files (status_of refusal) (run-other boot n refusal cause) goes
+
+-- nor is a script that isn't there
+pub script-other : (host : Change HostState) (name : List ℕ) (refusal : Refusal) → IsScriptRefusal host name refusal → status_of refusal ≡ ImageTooLarge → ⊥
+script-other host name (Unreadable which) cause e = cc
+script-other host name TooLarge cause e = absurd cause
+script-other host name (NotBuilt cia) cause e = absurd cause
+script-other host name (Bad which line column) cause e = cc
+script-other host name Unwritable cause e = absurd cause
+script-other host name OutOfMemory cause e = cc
+
+-- nor is one that is there
+pub done-other : Done ≡ ImageTooLarge → ⊥
+done-other e = cc
+
+-- nor a text that isn't written
+write-other : (out : Change SinkState) (text : List ℕ) (refusal : Refusal) → IsWriteRefusal out text refusal → status_of refusal ≡ ImageTooLarge → ⊥
+write-other out text (Unreadable which) cause e = absurd cause
+write-other out text TooLarge cause e = absurd cause
+write-other out text (NotBuilt cia) cause e = absurd cause
+write-other out text (Bad name line column) cause e = absurd cause
+write-other out text Unwritable cause e = cc
+write-other out text OutOfMemory cause e = cc
+
+pub goes-unwritten : (host : Change HostState) (files : List Wanted) (out : Change SinkState) (text : List ℕ) (refusal : Refusal) → IsWriteRefusal out text refusal → Goes host files Done → Goes host files (status_of refusal)
+goes-unwritten host files out text refusal cause goes = goes-on host files (status_of refusal) (write-other out text refusal cause) goes
+
+-- what is left of a file, by files that are the same
+left-since : (before middle after : HostState) (file : Wanted) → middle.files ≡ before.files → IsLeft (change middle after) file → IsLeft (change before after) file
+left-since before middle after file same left = λ is. subst (λ (f : Files). IfSome f (λ told. IsReadOn (reach file) (content_of told file.name) after.rest)) same (left is)
+
+-- a count that rose by one and by one
+pub rose-twice : (before middle after : ℕ) → RoseBy 1 before middle → RoseBy 1 middle after → RoseBy 2 before after
+rose-twice before middle after first second =
+    let up = first.0 in
+    let more = second.0 in
+    let least = first.1 in
+    let last = second.1 in
+    (omega arith, omega arith)
+
+-- one file and then another
+pub opens-both : (before middle after : HostState) (file other : Wanted) → middle.files ≡ before.files → Opens (change before middle) (file ∷ []) → Opens (change middle after) (other ∷ []) → Opens (change before after) (file ∷ other ∷ [])
+opens-both before middle after file other same first second =
+    let given = first.given in
+    let more = second.given in
+    record {
+      opened = rose-twice before.opened middle.opened after.opened first.opened second.opened;
+      given = omega arith;
+      left = left-since before middle after other same second.left;
+    }
+
+-- the one file of an order is opened
+pub goes-one : (host : Change HostState) (file : Wanted) (status : Status) → Opens host (file ∷ []) → Goes host (file ∷ []) status
+goes-one host file status opens = goes-all host (file ∷ []) status opens (λ e. omega arith)
+
+-- an image and then its script
+pub goes-both : (before middle after : HostState) (image : Wanted) (named : Option (List ℕ)) (name : List ℕ) (status : Status) → named ≡ Some name → middle.files ≡ before.files → (status ≡ ImageTooLarge → ⊥) → Opens (change before middle) (image ∷ []) → Opens (change middle after) (record { name = name; most = text_limit } ∷ []) → Goes (change before after) (image ∷ script_files named) status
+goes-both before middle after image named name status e same other first second =
+    subst (λ (n : Option (List ℕ)). Goes (change before after) (image ∷ script_files n) status) (sym e)
+    (goes-all (change before after) (image ∷ record { name = name; most = text_limit } ∷ []) status (opens-both before middle after image (record { name = name; most = text_limit }) same first second) (λ s. absurd (other s)))
+
+-- the files of the words' order
+pub goes-by : (host : Change HostState) (words : List (List ℕ)) (order : Order) (status result : Status) → order_of words ≡ Some order → result ≡ status → Goes host (files_of order) status → Goes host (files_by words) result
+goes-by host words order status result e s goes =
+    subst (λ (o : Option Order). Goes host (option_map_or files_of o []) result) (sym e) (subst (Goes host (files_of order)) (sym s) goes)
+
+-- none, where the words are no order
+pub goes-usage : (state : HostState) (words : List (List ℕ)) → order_of words ≡ None → Goes (change state state) (files_by words) Usage
+goes-usage state words e =
+    subst (λ (o : Option Order). Goes (change state state) (option_map_or files_of o []) Usage) (sym e)
+    (goes-all (change state state) [] Usage (record { opened = (omega arith, omega arith); given = omega arith; left = tt }) (λ s. omega arith))

@@ -1,0 +1,115 @@
+use crate::shared::{push_state, words_of};
+use mw_cli::{Status, mw_main};
+use mw_io::{SureHost, SureSink};
+use std::alloc::{AllocError, Global};
+use std::test::Fail;
+
+// li r3,0; oris r3,r3,0xc000; ori r3,r3,0x2000
+const UART: [u32; 3] = [0x3860_0000, 0x6463_c000, 0x6063_2000];
+
+/// The words behind those that put the UART's address into r3, the text of a script, a number of cycles, registers with
+/// their contents, and what the UART sent.
+struct Arrival(
+    &'static [u32],
+    &'static [u8],
+    u64,
+    &'static [(usize, &'static str)],
+    &'static str,
+);
+
+#[rattlefmt::skip]
+static ARRIVALS: [Arrival; 5] = [
+    // lbz r4,8(r3); lbz r5,9(r3); lbz r6,8(r3); lbz r7,8(r3); b .
+    Arrival(&[0x8883_0008, 0x88a3_0009, 0x88c3_0008, 0x88e3_0008], b"4 41", 20, &[(6, "0000000000000041")], "-"),
+    // the byte arrives in the cycle of the load
+    Arrival(&[0x8883_0008, 0x88a3_0009, 0x88c3_0008, 0x88e3_0008], b"3 41", 20, &[(4, "0000000000000041")], "-"),
+    // ld r4,16(r3); lbz r5,8(r3); lbz r6,8(r3); ld r7,16(r3); b . with 17 bytes, of which one is lost
+    Arrival(&[0xe883_0010, 0x88a3_0008, 0x88c3_0008, 0xe8e3_0010], b"0 000102030405060708090a0b0c0d0e0f10", 600, &[(4, "0000000000000006"), (6, "0000000000000001"), (7, "0000000000000002")], "-"),
+    // lbz r4,8(r3); stb r4,0(r3); lbz r4,8(r3); stb r4,0(r3); b .: what arrives is sent back
+    Arrival(&[0x8883_0008, 0x9883_0000, 0x8883_0008, 0x9883_0000], b"# a greeting\n0 4865\n", 325, &[(4, "0000000000000065")], "4865"),
+    Arrival(&[0x8883_0008, 0x9883_0000, 0x8883_0008, 0x9883_0000], b"0 4865\n", 323, &[(4, "0000000000000065")], "48"),
+];
+
+/// The bytes of words in little-endian order.
+fn push_words(image: &mut Vec<u8>, words: &[u32]) -> Result<(), AllocError> {
+    for word in words {
+        image.extend_from_slice(&word.to_le_bytes())?;
+    }
+    Ok(())
+}
+
+/// The text of so many cycles of these words and b ., with the registers and what the UART sent.
+fn text_of_arrival(
+    alloc: Global,
+    words: &[u32],
+    cycles: u64,
+    set: &[(usize, &str)],
+    uart: &str,
+) -> Result<String, AllocError> {
+    let mut text = String::new(alloc);
+    let mut cycle = 0;
+    for word in words {
+        writeln!(text, "R {cycle} {:016x} {word:08x}", 4 * cycle)?;
+        cycle += 1;
+    }
+    let last = 4 * cycle;
+    while cycle < cycles {
+        writeln!(text, "R {cycle} {last:016x} 48000000")?;
+        cycle += 1;
+    }
+    let cia = format!(in alloc; "{last:016x}")?;
+    let dec = format!(in alloc; "{:08x}", 0x7fff_ffff - cycles)?;
+    push_state(&mut text, cycles, set, cia.as_str(), dec.as_str(), uart)?;
+    Ok(text)
+}
+
+#[test]
+fn bytes_arrive_at_a_run(rt: HostRuntime) -> Result<(), Fail> {
+    let alloc = rt.alloc();
+    for Arrival(words, script, cycles, contents, uart) in &ARRIVALS {
+        assert!(rt; *cycles <= 600 && words.len() <= 4);
+        let mut all = Vec::new(alloc);
+        all.extend_from_slice(&UART)?;
+        all.extend_from_slice(*words)?;
+        let mut image = Vec::new(alloc);
+        push_words(&mut image, all.as_slice())?;
+        push_words(&mut image, &[0x4800_0000])?;
+        let mut set = Vec::new(alloc);
+        set.push((3, "00000000c0002000"))?;
+        set.extend_from_slice(*contents)?;
+        let mut host = SureHost::new(alloc);
+        host.put("img", image.as_slice())?;
+        host.put("s", *script)?;
+        let mut out = SureSink::new(alloc);
+        let mut err = SureSink::new(alloc);
+        let line = format!(in alloc; "run img --cycles {cycles} --script s")?;
+        let words = words_of(alloc, line.as_str())?;
+        let status = mw_main(alloc, words.as_slice(), &mut host, &mut out, &mut err);
+        assert_eq!(rt; status, Status::Done, "{script:?}");
+        let text = text_of_arrival(alloc, all.as_slice(), *cycles, set.as_slice(), *uart)?;
+        assert!(rt; out.as_slice() == text.as_bytes(), "{script:?} at {cycles}");
+        assert!(rt; err.as_slice().is_empty(), "{script:?}");
+    }
+    Ok(())
+}
+
+/// Behind a dump, and where no byte arrives within the run.
+#[test]
+fn a_script_stands_behind_a_dump(rt: HostRuntime) -> Result<(), Fail> {
+    let alloc = rt.alloc();
+    let mut host = SureHost::new(alloc);
+    host.put("img", b"\x00\x00\x00\x48")?;
+    host.put("s", b"\n# nothing yet\n4000000 41\n")?;
+    let mut out = SureSink::new(alloc);
+    let mut err = SureSink::new(alloc);
+    let words = words_of(alloc, "run img --cycles 2 --dump 0:4 --script s")?;
+    let status = mw_main(alloc, words.as_slice(), &mut host, &mut out, &mut err);
+    assert_eq!(rt; status, Status::Done);
+    let mut text = String::new(alloc);
+    text.push_str("R 0 0000000000000000 48000000\nR 1 0000000000000000 48000000\n")?;
+    push_state(&mut text, 2, &[], "0000000000000000", "7ffffffd", "-")?;
+    text.push_str("m 0000000000000000 00000048\n")?;
+    assert_eq!(rt; out.as_slice(), text.as_bytes());
+    assert!(rt; err.as_slice().is_empty());
+    Ok(())
+}
