@@ -120,7 +120,8 @@ fn obey<H: Host, O: Sink, E: Sink>(
 /// Does what the words behind the program's name ask for, and answers how the program ends. `run IMAGE --cycles N`
 /// reads the image from the host, 16,777,216 bytes at most, runs it from address 0 for N cycles, at most 4,000,000, and
 /// writes the text of the run to out. `--dump A:L` behind it adds the L bytes of RAM from real address A on, as the run
-/// leaves them: at least one byte and at most 65,536, all of them in RAM. `asm SOURCE` reads the source from the host,
+/// leaves them: at least one byte and at most 65,536, all of them in RAM. `--script FILE` behind both has a script read from
+/// the host behind the image, 1,048,576 bytes at most, whose bytes arrive at the UART; without it none does. `asm SOURCE` reads the source from the host,
 /// 4,194,304 bytes at most, and writes the bytes of its image to out. `dis IMAGE` reads the image as `run` does, and
 /// writes the text of its disassembly to out. Reading stops one byte past the file's limit. `Done` leaves err as it was,
 /// and any other status writes its line there, or a front of it where a write to err fails; the status stays what it is.

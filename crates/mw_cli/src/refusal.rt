@@ -13,9 +13,9 @@ pub enum Refusal<'a> {
         /// The byte address of that instruction.
         cia: u64,
     },
-    /// The source is refused.
+    /// The source or the script is refused.
     Bad {
-        /// The source's name.
+        /// The name of its file.
         name: &'a str,
         /// The line of the first refused place, counted from 1.
         line: u32,

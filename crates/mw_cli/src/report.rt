@@ -91,7 +91,7 @@ pub fn report_usage<S: Sink>(err: &mut S)
     write_one(err, b"mw: usage\n");
 }
 
-/// Writes to err the line of a refused source: its name and the refused place, as far as the sink takes it.
+/// Writes to err the line of a refused source or script: its name and the refused place, as far as the sink takes it.
 fn report_bad<S: Sink>(err: &mut S, name: &str, line: u32, column: u32)
     ensures took { TookUnlessFault (change (S.state err.old) (S.state err.new)) (bad_line name.now line column) }
     ensures faults { (S.state err.old).faults ≤ (S.state err.new).faults }

@@ -7,7 +7,8 @@ pub enum Status {
     /// What the words ask for is done: the text of the run or of the disassembly, or the
     /// image of the source, is written. Err took nothing.
     Done,
-    /// The words aren't `run IMAGE --cycles N`, `run IMAGE --cycles N --dump A:L`, `asm SOURCE` or `dis IMAGE`.
+    /// The words aren't `run IMAGE --cycles N`, with `--dump A:L` and then `--script FILE` behind it or without, `asm SOURCE`
+    /// or `dis IMAGE`.
     Usage,
     /// A call of the host failed, as at a name that isn't among its files.
     ReadFault,
@@ -15,7 +16,7 @@ pub enum Status {
     WriteFault,
     /// The image to run or to disassemble is longer than RAM, 16,777,216 bytes. Out took nothing.
     ImageTooLarge,
-    /// The source is refused at a place, or it goes on past 4,194,304 bytes. Out took nothing.
+    /// The source or the script is refused at a place, or goes on past 4,194,304 bytes, or 1,048,576. Out took nothing.
     BadInput,
     /// Memory is wanting. Out took nothing, or a front of the text or of the image.
     NoMemory,
