@@ -15,29 +15,6 @@ use Rattle.mw_cli.specs.Answers.{Goes}
 use Rattle.mw_cli.specs.Stages.{ending, IsLoadRefusal, IsRunRefusal, IsScriptRefusal, IsWriteRefusal}
 use Rattle.mw_cli.proofs.FileLemmas.{Files}
 
--- an image that isn't there gives no text
-load-stops : (host : Change HostState) (name : List ℕ) (refusal : Refusal) → IsLoadRefusal host name refusal → (status_of refusal ≡ Done) ⊎ (status_of refusal ≡ WriteFault) → ⊥
-load-stops host name (Unreadable which) cause e = elim e [ inl d ↦ cc | inr w ↦ cc ]
-load-stops host name TooLarge cause e = elim e [ inl d ↦ cc | inr w ↦ cc ]
-load-stops host name (NotBuilt cia) cause e = absurd cause
-load-stops host name (Bad which line column) cause e = absurd cause
-load-stops host name Unwritable cause e = absurd cause
-load-stops host name OutOfMemory cause e = elim e [ inl d ↦ cc | inr w ↦ cc ]
-
--- where the image isn't there, the other files aren't opened
-pub goes-first : (host : Change HostState) (file : Wanted) (others : List Wanted) (refusal : Refusal) → IsLoadRefusal host file.name refusal → Opens host (file ∷ []) → Goes host (file ∷ others) (status_of refusal)
-goes-first host file others refusal cause opens = (
-  file ∷ [],
-  others,
-  refl,
-  opens,
-  record {
-    to_last = λ e. absurd (load-stops host file.name refusal cause e);
-    no_further = λ e. omega arith;
-    to_first = λ n e. cc;
-  },
-)
-
 -- all are opened
 pub goes-all : (host : Change HostState) (files : List Wanted) (status : Status) → Opens host files → (status ≡ ImageTooLarge → length files ≤ 1) → Goes host files status
 goes-all host files status opens short = (
@@ -92,18 +69,6 @@ script-other host name OutOfMemory cause e = cc
 pub done-other : Done ≡ ImageTooLarge → ⊥
 done-other e = cc
 
--- nor a text that isn't written
-write-other : (out : Change SinkState) (text : List ℕ) (refusal : Refusal) → IsWriteRefusal out text refusal → status_of refusal ≡ ImageTooLarge → ⊥
-write-other out text (Unreadable which) cause e = absurd cause
-write-other out text TooLarge cause e = absurd cause
-write-other out text (NotBuilt cia) cause e = absurd cause
-write-other out text (Bad name line column) cause e = absurd cause
-write-other out text Unwritable cause e = cc
-write-other out text OutOfMemory cause e = cc
-
-pub goes-unwritten : (host : Change HostState) (files : List Wanted) (out : Change SinkState) (text : List ℕ) (refusal : Refusal) → IsWriteRefusal out text refusal → Goes host files Done → Goes host files (status_of refusal)
-goes-unwritten host files out text refusal cause goes = goes-on host files (status_of refusal) (write-other out text refusal cause) goes
-
 -- what is left of a file, by files that are the same
 left-since : (before middle after : HostState) (file : Wanted) → middle.files ≡ before.files → IsLeft (change middle after) file → IsLeft (change before after) file
 left-since before middle after file same left = λ is. subst (λ (f : Files). IfSome f (λ told. IsReadOn (reach file) (content_of told file.name) after.rest)) same (left is)
@@ -128,10 +93,6 @@ opens-both before middle after file other same first second =
       left = left-since before middle after other same second.left;
     }
 
--- the one file of an order is opened
-pub goes-one : (host : Change HostState) (file : Wanted) (status : Status) → Opens host (file ∷ []) → Goes host (file ∷ []) status
-goes-one host file status opens = goes-all host (file ∷ []) status opens (λ e. omega arith)
-
 -- an image and then its script
 pub goes-both : (before middle after : HostState) (image : Wanted) (named : Option (List ℕ)) (name : List ℕ) (status : Status) → named ≡ Some name → middle.files ≡ before.files → (status ≡ ImageTooLarge → ⊥) → Opens (change before middle) (image ∷ []) → Opens (change middle after) (record { name = name; most = text_limit } ∷ []) → Goes (change before after) (image ∷ script_files named) status
 goes-both before middle after image named name status e same other first second =
@@ -142,9 +103,3 @@ goes-both before middle after image named name status e same other first second 
 pub goes-by : (host : Change HostState) (words : List (List ℕ)) (order : Order) (status result : Status) → order_of words ≡ Some order → result ≡ status → Goes host (files_of order) status → Goes host (files_by words) result
 goes-by host words order status result e s goes =
     subst (λ (o : Option Order). Goes host (option_map_or files_of o []) result) (sym e) (subst (Goes host (files_of order)) (sym s) goes)
-
--- none, where the words are no order
-pub goes-usage : (state : HostState) (words : List (List ℕ)) → order_of words ≡ None → Goes (change state state) (files_by words) Usage
-goes-usage state words e =
-    subst (λ (o : Option Order). Goes (change state state) (option_map_or files_of o []) Usage) (sym e)
-    (goes-all (change state state) [] Usage (record { opened = (omega arith, omega arith); given = omega arith; left = tt }) (λ s. omega arith))

@@ -136,20 +136,6 @@ text-since : (files since : Files) (named : Option (List ℕ)) (name text : List
 text-since files since named name text same e is =
     subst (λ (n : Option (List ℕ)). IsText files n text) (sym e) (subst (λ (f : Files). IfSome f (λ told. text ≡ content_of told name)) same is)
 
--- and a script that is read of it
-script-since : (before middle after : HostState) (named : Option (List ℕ)) (name : List ℕ) (script : List (ℕ × ℕ)) → middle.files ≡ before.files → named ≡ Some name → IsScript (change middle after) name script → IsScriptOf (change before after) named script
-script-since before middle after named name script same e (text, is, read) =
-    subst (λ (n : Option (List ℕ)). IsScriptOf (change before after) n script) (sym e)
-    (text, subst (λ (f : Files). IfSome f (λ told. text ≡ content_of told name)) same is, read)
-
--- with an image that is there, a script that is read makes a start
-pub starts-both : (before middle after : HostState) (order : RunOrder) (image name : List ℕ) (script : List (ℕ × ℕ)) → middle.files ≡ before.files → order.script ≡ Some name → IsContent (change before middle) order.image image → length image ≤ ram_size → IsScript (change middle after) name script → IsStart (change before after) order image script
-starts-both before middle after order image name script same e is short read = record {
-  image_is = is;
-  image_fits = short;
-  script_is = script-since before middle after order.script name script same e read;
-}
-
 -- where none is named, no byte arrives
 pub starts-alone : (host : Change HostState) (order : RunOrder) (image : List ℕ) (script : List (ℕ × ℕ)) → order.script ≡ None → script ≡ [] → IsContent host order.image image → length image ≤ ram_size → IsStart host order image script
 starts-alone host order image script e none is short = record {

@@ -1,4 +1,4 @@
-ghost use Rattle.std.specs.Prelude.{◌≡◌, ◌+◌, ◌++◌, ◌≤◌, ◌<◌, length};
+ghost use Rattle.std.specs.Prelude.{◌≡◌, ◌+◌, ◌++◌, ◌≤◌, ◌<◌, false, length};
 ghost use Rattle.mw_isa.specs.Branches.{bit_permits, count_of, ctr_permits, is_taken, word_address};
 ghost use Rattle.mw_isa.specs.Execute.{branch_by, branch_of, count_target, goal_of, link_target, target_of};
 ghost use Rattle.mw_isa.specs.Places.{AreLimited, branch_roles};
