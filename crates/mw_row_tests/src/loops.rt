@@ -80,10 +80,10 @@ static PROGRAMS: [Program; 12] = [
 fn loops_leave_their_registers(rt: HostRuntime) -> Result<(), Fail> {
     let mut state = first(rt.alloc())?;
     for Program(words, n, xer, cr, special, contents) in &PROGRAMS {
-        let mut at = 0;
+        let mut at = 0u32;
         for word in *words {
-            state.ram.write(at, &word.to_le_bytes());
-            at = (at + 4) % 256;
+            state.ram.write(u64::from(at), &word.to_le_bytes());
+            at = at.wrapping_add(4);
         }
         state.regs = Regs::new();
         for cycle in 0..*n {
