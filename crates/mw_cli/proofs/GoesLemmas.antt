@@ -1,10 +1,10 @@
 -- How far a host goes through the files of an order.
-use Rattle.std.proofs.Common.{◌≡◌, ℕ, ◌≤◌, ◌⊎◌, inl, inr, List, [], ◌∷◌, length, Option, Some, None, Result, Ok, Err, IfErr, IfSome, refl, sym, subst, arith, append-nil}
+use Rattle.std.proofs.Common.{◌≡◌, ℕ, ◌≤◌, inl, List, [], ◌∷◌, length, Option, Some, Result, Ok, Err, IfErr, IfSome, refl, sym, subst, arith, append-nil}
 use Rattle.std.specs.Option.{option_map_or}
-use Rattle.mw_io.specs.Outside.{HostState, SinkState, RoseBy, IsReadOn, content_of}
+use Rattle.mw_io.specs.Outside.{HostState, RoseBy, IsReadOn, content_of}
 use Rattle.mw_isa.specs.Start.{Boot}
 use Rattle.mw_cli.specs.declared.status.Status.{Status}
-use Rattle.mw_cli.specs.declared.status.Status.TheVariants.{Done, Usage, WriteFault, ImageTooLarge}
+use Rattle.mw_cli.specs.declared.status.Status.TheVariants.{Done, ImageTooLarge}
 use Rattle.mw_cli.specs.declared.refusal.Refusal.{Refusal}
 use Rattle.mw_cli.specs.declared.refusal.Refusal.TheVariants.{Unreadable, Unwritable, TooLarge, Bad, OutOfMemory, NotBuilt}
 use Rattle.mw_uart.specs.Script.{text_limit}
@@ -12,7 +12,7 @@ use Rattle.mw_cli.specs.Command.{Wanted, Order, script_files, files_of, files_by
 use Rattle.mw_cli.specs.Numbers.{status_of}
 use Rattle.mw_cli.specs.Outside.{Change, change, Opens, IsLeft, reach}
 use Rattle.mw_cli.specs.Answers.{Goes}
-use Rattle.mw_cli.specs.Stages.{ending, IsLoadRefusal, IsRunRefusal, IsScriptRefusal, IsWriteRefusal}
+use Rattle.mw_cli.specs.Stages.{ending, IsRunRefusal, IsScriptRefusal}
 use Rattle.mw_cli.proofs.FileLemmas.{Files}
 
 -- all are opened

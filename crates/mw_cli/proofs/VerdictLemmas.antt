@@ -14,7 +14,7 @@ use Rattle.mw_cli.specs.Headline.{SpellsRun}
 use Rattle.mw_cli.specs.Verdict.{TextOf, Bytes, Verdict, Writes, Refuses, first_of, text_by, run_by, verdict_on, verdict_by, verdict_of, with_script, unless_too_large, unless_unbuilt, unless_bad, too_large_line, unbuilt_line, bad_line}
 use Rattle.mw_cli.specs.Outside.{Change, change, contents_of}
 use Rattle.mw_cli.specs.Answers.{ComesTo, Gives, IsUnread}
-use Rattle.mw_cli.specs.Stages.{ending, IsContent, IsAbsent, IsReadRefusal, IsLoadRefusal, IsScript, IsScriptOf, IsStart, IsScriptRefusal, IsRunRefusal, GivesNothing}
+use Rattle.mw_cli.specs.Stages.{ending, IsContent, IsAbsent, IsReadRefusal, IsLoadRefusal, IsScriptOf, IsStart, IsScriptRefusal, IsRunRefusal, GivesNothing}
 use Rattle.mw_bus.specs.Memory.{ram_size}
 use Rattle.mw_uart.specs.Script.{Place as ScriptPlace, script_of}
 use Rattle.mw_uart.proofs.Laws.{script_of-empty}

@@ -177,13 +177,13 @@ fn word_at(words: &[u32], address: usize) -> u32 {
 
 /// Appends the lines of the events.
 fn push_events(text: &mut String, worked: &Worked) -> Result<(), AllocError> {
-    let mut cycle = 0;
+    let mut cycle = 0u64;
     let mut last = 0;
     for address in worked.events {
         last = *address;
         let word = word_at(worked.words, last);
         writeln!(text, "R {cycle} {last:016x} {word:08x}")?;
-        cycle += 1;
+        cycle = cycle.wrapping_add(1);
     }
     let word = word_at(worked.words, last);
     for later in cycle..worked.cycles {
