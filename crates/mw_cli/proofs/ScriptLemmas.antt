@@ -1,14 +1,16 @@
 -- A script that is read up to one byte past its limit shows what the whole text gives.
-use Rattle.std.proofs.Common.{◌≡◌, ℕ, inl, inr, ◌+◌, List, length, take, Some, None, Result, Err, IfSome, refl, sym, ap, ◌∙◌, arith}
+use Rattle.std.proofs.Common.{◌≡◌, ℕ, inl, inr, ◌+◌, List, length, take, Some, None, Result, Ok, Err, IfOk, IfErr, IfSome, refl, sym, ap, ◌∙◌, arith}
 use Rattle.std.proofs.lemmas.Bool.{cases_lt}
 use Rattle.std.proofs.lemmas.List.{take_all, take-take, length-take}
-use Rattle.mw_io.specs.Outside.{HostState, content_of}
+use Rattle.mw_io.specs.Outside.{HostState, Counts, content_of}
 use Rattle.mw_uart.specs.Script.{Place, place_behind, script_of}
 use Rattle.mw_uart.proofs.Laws.{script_of-long}
+use Rattle.mw_cli.specs.declared.status.Status.TheVariants.{Done, ReadFault}
 use Rattle.mw_cli.specs.declared.refusal.Refusal.{Refusal}
+use Rattle.mw_cli.specs.Numbers.{status_of}
 use Rattle.mw_cli.specs.declared.refusal.Refusal.TheVariants.{Unreadable, Unwritable, TooLarge, Bad, OutOfMemory, NotBuilt}
 use Rattle.mw_cli.specs.Outside.{Change}
-use Rattle.mw_cli.specs.Stages.{IsReadRefusal, IsScriptRefusal}
+use Rattle.mw_cli.specs.Stages.{ending, IsFront, IsReadRefusal, IsTextRefusal, IsScript, IsScriptRefusal}
 use Rattle.mw_cli.proofs.FileLemmas.{Files}
 
 -- the front of a text up to one byte past the limit gives what the text gives
@@ -34,3 +36,33 @@ script-unread host name (NotBuilt cia) cause = cause
 script-unread host name (Bad which line column) cause = absurd cause
 script-unread host name Unwritable cause = cause
 script-unread host name OutOfMemory cause = cause
+
+-- so is what a text of the file gives
+pub script-told : (host : Change HostState) (name bytes text : List ℕ) (r : Result (List (ℕ × ℕ)) Refusal) → text ≡ bytes → IsFront host (record { name = name; most = 1048576 }) bytes → IfOk r (λ script. script_of text ≡ Ok script) → IfOk r (IsScript host name)
+script-told host name bytes text (Ok script) is front e = script-gives host.before.files name bytes (Ok script) front (ap script_of (sym is) ∙ e)
+script-told host name bytes text (Err refusal) is front e = tt
+
+refusal-told : (host : Change HostState) (name bytes text : List ℕ) (refusal : Refusal) → text ≡ bytes → IsFront host (record { name = name; most = 1048576 }) bytes → IsTextRefusal name text refusal → IsScriptRefusal host name refusal
+refusal-told host name bytes text (Unreadable which) is front e = absurd e
+refusal-told host name bytes text TooLarge is front e = absurd e
+refusal-told host name bytes text (NotBuilt cia) is front e = absurd e
+refusal-told host name bytes text (Bad which line column) is front (same, e) = (same, script-gives host.before.files name bytes (Err (record { line = line; column = column })) front (ap script_of (sym is) ∙ e))
+refusal-told host name bytes text Unwritable is front e = absurd e
+refusal-told host name bytes text OutOfMemory is front e = tt
+
+pub script-refused : (host : Change HostState) (name bytes text : List ℕ) (r : Result (List (ℕ × ℕ)) Refusal) → text ≡ bytes → IsFront host (record { name = name; most = 1048576 }) bytes → IfErr r (IsTextRefusal name text) → IfErr r (IsScriptRefusal host name)
+script-refused host name bytes text (Ok script) is front e = tt
+script-refused host name bytes text (Err refusal) is front e = refusal-told host name bytes text refusal is front e
+
+-- a text that gives no script was read
+text-read : (name text : List ℕ) (refusal : Refusal) → IsTextRefusal name text refusal → status_of refusal ≡ ReadFault → ⊥
+text-read name text (Unreadable which) cause e = absurd cause
+text-read name text TooLarge cause e = absurd cause
+text-read name text (NotBuilt cia) cause e = absurd cause
+text-read name text (Bad which line column) cause e = cc
+text-read name text Unwritable cause e = absurd cause
+text-read name text OutOfMemory cause e = cc
+
+pub text-calm : (name text : List ℕ) (before after : ℕ) (r : Result (List (ℕ × ℕ)) Refusal) → after ≡ before → IfErr r (IsTextRefusal name text) → Counts before after (ending r ≡ ReadFault)
+text-calm name text before after (Ok script) e cause = record { later = omega arith; rose = λ (c : Done ≡ ReadFault). cc; stays = λ n. e }
+text-calm name text before after (Err refusal) e cause = record { later = omega arith; rose = λ c. absurd (text-read name text refusal cause c); stays = λ n. e }

@@ -56,6 +56,12 @@ abbrev pub IsLoadRefusal : Change HostState → List ℕ → Refusal → Type 0
 IsLoadRefusal host name TooLarge = IsTooLong host name
 IsLoadRefusal host name refusal = IsReadRefusal host name refusal
 
+-- why the text of the script of this name gives no script
+abbrev pub IsTextRefusal : List ℕ → List ℕ → Refusal → Type 0
+IsTextRefusal name text (Bad which line column) = (which.now ≡ name) × (script_of text ≡ Err (record { line = line; column = column }))
+IsTextRefusal name text OutOfMemory = ⊤
+IsTextRefusal name text refusal = ⊥
+
 -- this is the script of this name, where the host tells its files, or that of some text
 abbrev pub IsScript : Change HostState → List ℕ → List (ℕ × ℕ) → Type 0
 IsScript host name script = (text : List ℕ) × IsContent host name text × (script_of text ≡ Ok script)

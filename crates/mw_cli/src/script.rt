@@ -1,9 +1,9 @@
-ghost use Rattle.std.specs.Prelude.{◌≡◌, [], ◌∷◌, IfOk, IfErr, IsTrue};
-ghost use Rattle.mw_uart.specs.Script.{text_limit};
+ghost use Rattle.std.specs.Prelude.{◌≡◌, Ok, [], ◌∷◌, IfOk, IfErr, IsTrue};
+ghost use Rattle.mw_uart.specs.Script.{script_of, text_limit};
 ghost use Rattle.mw_io.specs.Outside.{Counts};
 ghost use Rattle.mw_cli.specs.declared.status.Status.TheVariants.{ReadFault};
 ghost use Rattle.mw_cli.specs.Outside.{change, Opens};
-ghost use Rattle.mw_cli.specs.Stages.{ending, IsScript, IsScriptRefusal};
+ghost use Rattle.mw_cli.specs.Stages.{ending, IsTextRefusal, IsScript, IsScriptRefusal};
 
 use crate::refusal::Refusal;
 use crate::transfer::read_file;
@@ -13,6 +13,18 @@ use std::alloc::Global;
 
 /// The most bytes that the text of a script may have.
 const MOST_BYTES: usize = 1048576;
+
+/// The script that the text of the file of a name describes.
+fn script_of_text<'a>(alloc: Global, name: &'a str, text: &[u8]) -> Result<Script, Refusal<'a>>
+    ensures script { IfOk result (λ script. script_of text.now ≡ Ok script) }
+    ensures refused { IfErr result (IsTextRefusal name.now text.now) }
+{
+    match read_script(alloc, text) {
+        Ok(script) => Ok(script),
+        Err(BadScript::Bad { line, column }) => Err(Refusal::Bad { name, line, column }),
+        Err(BadScript::NoMemory) => Err(Refusal::OutOfMemory),
+    }
+}
 
 /// Reads the script of a name. A text that goes on past the limit is refused there, as its first bytes show. An `Err`
 /// says what failed.
@@ -32,9 +44,5 @@ pub fn script_of_file<'a, H: Host>(
         Ok(text) => text,
         Err(refusal) => return Err(refusal),
     };
-    match read_script(alloc, text.as_slice()) {
-        Ok(script) => Ok(script),
-        Err(BadScript::Bad { line, column }) => Err(Refusal::Bad { name, line, column }),
-        Err(BadScript::NoMemory) => Err(Refusal::OutOfMemory),
-    }
+    script_of_text(alloc, name, text.as_slice())
 }
