@@ -8,26 +8,27 @@ use std::test::Fail;
 const UART: [u32; 3] = [0x3860_0000, 0x6463_c000, 0x6063_2000];
 
 /// The words behind those that put the UART's address into r3, the text of a script, a number of cycles, registers with
-/// their contents, and what the UART sent.
+/// their contents, the decrementer, and what the UART sent.
 struct Arrival(
     &'static [u32],
     &'static [u8],
     u64,
     &'static [(usize, &'static str)],
     &'static str,
+    &'static str,
 );
 
 #[rattlefmt::skip]
 static ARRIVALS: [Arrival; 5] = [
     // lbz r4,8(r3); lbz r5,9(r3); lbz r6,8(r3); lbz r7,8(r3); b .
-    Arrival(&[0x8883_0008, 0x88a3_0009, 0x88c3_0008, 0x88e3_0008], b"4 41", 20, &[(6, "0000000000000041")], "-"),
+    Arrival(&[0x8883_0008, 0x88a3_0009, 0x88c3_0008, 0x88e3_0008], b"4 41", 20, &[(6, "0000000000000041")], "7fffffeb", "-"),
     // the byte arrives in the cycle of the load
-    Arrival(&[0x8883_0008, 0x88a3_0009, 0x88c3_0008, 0x88e3_0008], b"3 41", 20, &[(4, "0000000000000041")], "-"),
+    Arrival(&[0x8883_0008, 0x88a3_0009, 0x88c3_0008, 0x88e3_0008], b"3 41", 20, &[(4, "0000000000000041")], "7fffffeb", "-"),
     // ld r4,16(r3); lbz r5,8(r3); lbz r6,8(r3); ld r7,16(r3); b . with 17 bytes, of which one is lost
-    Arrival(&[0xe883_0010, 0x88a3_0008, 0x88c3_0008, 0xe8e3_0010], b"0 000102030405060708090a0b0c0d0e0f10", 600, &[(4, "0000000000000006"), (6, "0000000000000001"), (7, "0000000000000002")], "-"),
+    Arrival(&[0xe883_0010, 0x88a3_0008, 0x88c3_0008, 0xe8e3_0010], b"0 000102030405060708090a0b0c0d0e0f10", 600, &[(4, "0000000000000006"), (6, "0000000000000001"), (7, "0000000000000002")], "7ffffda7", "-"),
     // lbz r4,8(r3); stb r4,0(r3); lbz r4,8(r3); stb r4,0(r3); b .: what arrives is sent back
-    Arrival(&[0x8883_0008, 0x9883_0000, 0x8883_0008, 0x9883_0000], b"# a greeting\n0 4865\n", 325, &[(4, "0000000000000065")], "4865"),
-    Arrival(&[0x8883_0008, 0x9883_0000, 0x8883_0008, 0x9883_0000], b"0 4865\n", 323, &[(4, "0000000000000065")], "48"),
+    Arrival(&[0x8883_0008, 0x9883_0000, 0x8883_0008, 0x9883_0000], b"# a greeting\n0 4865\n", 325, &[(4, "0000000000000065")], "7ffffeba", "4865"),
+    Arrival(&[0x8883_0008, 0x9883_0000, 0x8883_0008, 0x9883_0000], b"0 4865\n", 323, &[(4, "0000000000000065")], "7ffffebc", "48"),
 ];
 
 /// The bytes of words in little-endian order.
@@ -38,36 +39,33 @@ fn push_words(image: &mut Vec<u8>, words: &[u32]) -> Result<(), AllocError> {
     Ok(())
 }
 
-/// The text of so many cycles of these words and b ., with the registers and what the UART sent.
+/// The last two digits of the addresses of the seven words in front of `b .`.
+const PLACES: [&str; 7] = ["00", "04", "08", "0c", "10", "14", "18"];
+
+/// The text of so many cycles of these words and b ., with the registers, the decrementer and what the UART sent.
 fn text_of_arrival(
     alloc: Global,
     words: &[u32],
     cycles: u64,
     set: &[(usize, &str)],
+    dec: &str,
     uart: &str,
 ) -> Result<String, AllocError> {
     let mut text = String::new(alloc);
-    let mut cycle = 0;
-    for word in words {
-        writeln!(text, "R {cycle} {:016x} {word:08x}", 4 * cycle)?;
-        cycle += 1;
+    for ((cycle, word), place) in words.iter().enumerate().zip(&PLACES) {
+        writeln!(text, "R {cycle} 00000000000000{place} {word:08x}")?;
     }
-    let last = 4 * cycle;
-    while cycle < cycles {
-        writeln!(text, "R {cycle} {last:016x} 48000000")?;
-        cycle += 1;
+    for cycle in 7..cycles {
+        writeln!(text, "R {cycle} 000000000000001c 48000000")?;
     }
-    let cia = format!(in alloc; "{last:016x}")?;
-    let dec = format!(in alloc; "{:08x}", 0x7fff_ffff - cycles)?;
-    push_state(&mut text, cycles, set, cia.as_str(), dec.as_str(), uart)?;
+    push_state(&mut text, cycles, set, "000000000000001c", dec, uart)?;
     Ok(text)
 }
 
 #[test]
 fn bytes_arrive_at_a_run(rt: HostRuntime) -> Result<(), Fail> {
     let alloc = rt.alloc();
-    for Arrival(words, script, cycles, contents, uart) in &ARRIVALS {
-        assert!(rt; *cycles <= 600 && words.len() <= 4);
+    for Arrival(words, script, cycles, contents, dec, uart) in &ARRIVALS {
         let mut all = Vec::new(alloc);
         all.extend_from_slice(&UART)?;
         all.extend_from_slice(*words)?;
@@ -86,7 +84,7 @@ fn bytes_arrive_at_a_run(rt: HostRuntime) -> Result<(), Fail> {
         let words = words_of(alloc, line.as_str())?;
         let status = mw_main(alloc, words.as_slice(), &mut host, &mut out, &mut err);
         assert_eq!(rt; status, Status::Done, "{script:?}");
-        let text = text_of_arrival(alloc, all.as_slice(), *cycles, set.as_slice(), *uart)?;
+        let text = text_of_arrival(alloc, all.as_slice(), *cycles, set.as_slice(), *dec, *uart)?;
         assert!(rt; out.as_slice() == text.as_bytes(), "{script:?} at {cycles}");
         assert!(rt; err.as_slice().is_empty(), "{script:?}");
     }
