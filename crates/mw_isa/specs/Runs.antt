@@ -6,9 +6,9 @@
 -- without an event; a run that breaks the update discipline stops at its first offending access, and all this holds
 -- until there.
 --
--- Below is what of it is built: image, number of cycles, events, registers, memory, UART bytes, and the 8,192 cycles.
--- Scripts, waits, interrupts and the update discipline aren't built yet, and a run that reaches an instruction that
--- isn't built is refused.
+-- Below is what of it is built: image, script, number of cycles, events, registers, memory, UART bytes, and the 8,192
+-- cycles. Waits, interrupts and the update discipline aren't built yet, and a run that reaches an instruction that isn't
+-- built is refused.
 use Rattle.std.specs.Prelude.{ℕ, ◌≡◌, ◌≤◌, ◌<◌, List, length, Some, All}
 use Rattle.std.specs.List.Sorted.{IsStrictlyIncreasing}
 use Rattle.mw_bus.specs.Memory.{ram_size}

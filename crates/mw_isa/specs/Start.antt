@@ -1,5 +1,5 @@
 -- The start of the machine (this board's own, but for the meaning of MSR's bits: Book III, machine state register).
-use Rattle.std.specs.Prelude.{ℕ, List, [], None, replicate}
+use Rattle.std.specs.Prelude.{ℕ, List, None, replicate}
 use Rattle.mw_bus.specs.Memory.{ram_of}
 use Rattle.mw_isa.specs.declared.regs.Regs.{Regs}
 use Rattle.mw_soc.specs.Devices.{start_devices}
@@ -10,10 +10,6 @@ use Rattle.mw_isa.specs.State.{State}
 pub record Boot : Type 0 where
   pub image : List ℕ
   pub script : List (ℕ × ℕ)
-
--- an image alone: no byte arrives
-abbrev pub boot_of : List ℕ → Boot
-boot_of image = record { image = image; script = [] }
 
 -- every register is 0, but for SF, HV, ME and LE in MSR; nothing is reserved
 abbrev pub start_regs : Regs
