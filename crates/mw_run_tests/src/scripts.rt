@@ -111,3 +111,40 @@ fn a_script_stands_behind_a_dump(rt: HostRuntime) -> Result<(), Fail> {
     assert!(rt; err.as_slice().is_empty());
     Ok(())
 }
+
+/// A console: li r3,0; oris r3,r3,0xc000; ori r3,r3,0x2000; li r4,53; std r4,24(r3); li r5,text; next: lbz r6,0(r5);
+/// cmpli 0,1,r6,0; bc 12,2,echo; send: ld r7,16(r3); andi. r7,r7,8; bc 4,2,send; stb r6,0(r3); addi r5,r5,1; b next;
+/// echo: ld r7,16(r3); andi. r7,r7,1; bc 4,2,echo; lbz r6,8(r3); put: ld r7,16(r3); andi. r7,r7,8; bc 4,2,put; stb
+/// r6,0(r3); b echo; text: "Hello World", a new line and a zero.
+#[rattlefmt::skip]
+const CONSOLE: [u32; 28] = [
+    0x3860_0000, 0x6463_c000, 0x6063_2000, 0x3880_0035, 0xf883_0018, 0x38a0_0060, 0x88c5_0000, 0x2826_0000,
+    0x4182_001c, 0xe8e3_0010, 0x70e7_0008, 0x4082_fff8, 0x98c3_0000, 0x38a5_0001, 0x4bff_ffe0, 0xe8e3_0010,
+    0x70e7_0001, 0x4082_fff8, 0x88c3_0008, 0xe8e3_0010, 0x70e7_0008, 0x4082_fff8, 0x98c3_0000, 0x4bff_ffe0,
+    0x6c6c_6548, 0x6f57_206f, 0x0a64_6c72, 0x0000_0000,
+];
+
+/// Its greeting goes out, a byte every 8,640 cycles, and behind it each byte that arrives.
+#[test]
+fn a_console_greets_and_sends_back(rt: HostRuntime) -> Result<(), Fail> {
+    let alloc = rt.alloc();
+    let mut image = Vec::new(alloc);
+    push_words(&mut image, &CONSOLE)?;
+    let mut host = SureHost::new(alloc);
+    host.put("img", image.as_slice())?;
+    host.put(
+        "s",
+        b"200000 61\n220000 62\n240000 63\n260000 0d\n280000 0a\n",
+    )?;
+    let mut out = SureSink::new(alloc);
+    let mut err = SureSink::new(alloc);
+    let words = words_of(alloc, "run img --cycles 600000 --script s")?;
+    let status = mw_main(alloc, words.as_slice(), &mut host, &mut out, &mut err);
+    assert_eq!(rt; status, Status::Done);
+    assert!(rt;
+        out.as_slice()
+            .ends_with(b"\nuart 48656c6c6f20576f726c640a6162630d0a\n")
+    );
+    assert!(rt; err.as_slice().is_empty());
+    Ok(())
+}
