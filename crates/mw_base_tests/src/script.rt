@@ -110,18 +110,24 @@ fn is_refused(alloc: Global, text: &[u8], line: u32, column: u32) -> bool {
     }
 }
 
+/// The first 1,048,576 bytes of a text.
+fn mebibyte<'a>(rt: &impl Abort, text: &'a [u8]) -> &'a [u8] {
+    assert!(rt; 1048576 <= text.len());
+    &text[..1048576]
+}
+
 #[test]
 fn a_text_has_at_most_a_mebibyte(rt: HostRuntime) -> Result<(), Fail> {
     let mut text = vec![in rt.alloc(); b'#'; 1048577]?;
-    assert!(rt; read_script(rt.alloc(), &text.as_slice()[..1048576]).is_ok());
+    assert!(rt; read_script(rt.alloc(), mebibyte(&rt, text.as_slice())).is_ok());
     assert!(rt; is_refused(rt.alloc(), text.as_slice(), 1, 1048577));
     text.as_mut_slice()[1048575] = b'\n';
-    assert!(rt; read_script(rt.alloc(), &text.as_slice()[..1048576]).is_ok());
+    assert!(rt; read_script(rt.alloc(), mebibyte(&rt, text.as_slice())).is_ok());
     assert!(rt; is_refused(rt.alloc(), text.as_slice(), 2, 1));
     // it is refused before the line that isn't one
     text.as_mut_slice()[0] = b'x';
     assert!(rt; is_refused(rt.alloc(), text.as_slice(), 2, 1));
-    assert!(rt; is_refused(rt.alloc(), &text.as_slice()[..1048576], 1, 1));
+    assert!(rt; is_refused(rt.alloc(), mebibyte(&rt, text.as_slice()), 1, 1));
     Ok(())
 }
 
@@ -194,6 +200,7 @@ fn seventeen_arrivals_keep_sixteen(rt: HostRuntime) -> Result<(), Fail> {
 fn bytes_arrive_at_the_devices(rt: HostRuntime) -> Result<(), Fail> {
     let mut devices = Devices::new(rt.alloc(), script_of(&rt, rt.alloc(), b"2 4142"), 1)?;
     assert_eq!(rt; devices.load(0xC000_2010, 1)[0], 3);
+    assert!(rt; devices.cycle() <= 2);
     devices.advance(2);
     assert_eq!(rt; devices.load(0xC000_2008, 1)[0], 0x41);
     assert_eq!(rt; devices.load(0xC000_2008, 4)[0], 0x42);

@@ -1,6 +1,7 @@
 use crate::shared::{LOOP, SINGLE, words_of};
 use mw_cli::{Status, mw_main};
 use mw_io::{MemHost, RealHost, SureHost, SureSink};
+use std::alloc::{AllocError, Global};
 use std::test::Fail;
 
 /// A script that is read, and one whose second line falls.
@@ -103,38 +104,48 @@ fn a_script_of_the_system_is_absent(rt: HostRuntime) -> Result<(), Fail> {
     Ok(())
 }
 
-/// The longest script is read, and one byte more is refused; an image that is too large is refused before its script.
-#[test]
-fn the_longest_script_is_served(rt: HostRuntime) -> Result<(), Fail> {
-    let alloc = rt.alloc();
-    let comment = vec![in alloc; b'#'; 1048577]?;
-    let large = vec![in alloc; 0; 16777217]?;
-    for (longer, want, said) in [
-        (false, Status::Done, ""),
-        (true, Status::BadInput, "mw: s:1:1048577: bad input\n"),
-    ] {
-        let mut host = SureHost::new(alloc);
-        host.put("img", LOOP)?;
-        let size = if longer { 1048577 } else { 1048576 };
-        host.put("s", &comment.as_slice()[..size])?;
-        let mut out = SureSink::new(alloc);
-        let mut err = SureSink::new(alloc);
-        let words = words_of(alloc, "run img --cycles 0 --script s")?;
-        let status = mw_main(alloc, words.as_slice(), &mut host, &mut out, &mut err);
-        assert_eq!(rt; status, want, "{longer}");
-        assert_eq!(rt; err.as_slice(), said.as_bytes(), "{longer}");
-    }
+/// So many bytes of one value.
+fn bytes_of(alloc: Global, byte: u8, count: usize) -> Result<Vec<u8>, AllocError> {
+    vec![in alloc; byte; count]
+}
+
+/// Whether a run of no cycles of an image with a script is answered so, and err is told this.
+fn is_answered(
+    alloc: Global,
+    image: &[u8],
+    script: &[u8],
+    want: Status,
+    said: &str,
+) -> Result<bool, AllocError> {
     let mut host = SureHost::new(alloc);
-    host.put("img", large.as_slice())?;
-    host.put("s", b"5 4")?;
+    host.put("img", image)?;
+    host.put("s", script)?;
     let mut out = SureSink::new(alloc);
     let mut err = SureSink::new(alloc);
     let words = words_of(alloc, "run img --cycles 0 --script s")?;
     let status = mw_main(alloc, words.as_slice(), &mut host, &mut out, &mut err);
-    assert_eq!(rt; status, Status::ImageTooLarge);
-    assert_eq!(rt;
-        err.as_slice(),
-        b"mw: image exceeds 16777216 bytes\n".as_slice()
+    Ok(status == want && err.as_slice() == said.as_bytes())
+}
+
+/// The longest script is read, and one byte more is refused; an image that is too large is refused before its script.
+#[test]
+fn the_longest_script_is_served(rt: HostRuntime) -> Result<(), Fail> {
+    let alloc = rt.alloc();
+    let longest = bytes_of(alloc, b'#', 1048576)?;
+    let longer = bytes_of(alloc, b'#', 1048577)?;
+    let large = bytes_of(alloc, 0, 16777217)?;
+    let place = "mw: s:1:1048577: bad input\n";
+    let limit = "mw: image exceeds 16777216 bytes\n";
+    assert!(rt; is_answered(alloc, LOOP, longest.as_slice(), Status::Done, "")?);
+    assert!(rt; is_answered(alloc, LOOP, longer.as_slice(), Status::BadInput, place)?);
+    assert!(rt;
+        is_answered(
+            alloc,
+            large.as_slice(),
+            b"5 4",
+            Status::ImageTooLarge,
+            limit
+        )?
     );
     Ok(())
 }
