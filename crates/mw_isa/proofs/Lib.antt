@@ -1,8 +1,10 @@
--- What holds of each row of the table, of registers by name, of products, of a step, of a replay, of a run's text and of an access.
+-- What holds of each row of the table, of registers by name, of what raises an interrupt, of products, of a step, of a
+-- replay, of a run's text and of an access.
 pub mod SlotLaws
 pub mod RowLaws
 pub mod ReadLaws
 pub mod NextLaws
+pub mod RaiseLaws
 pub mod LongLaws
 pub mod StepLaws
 pub mod ReplayLaws

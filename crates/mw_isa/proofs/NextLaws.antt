@@ -6,13 +6,14 @@ use Rattle.mw_decode.specs.Decode.{IsInsn}
 use Rattle.mw_tables.specs.Matching.{has_prefix}
 use Rattle.mw_isa.specs.declared.memory.MemWhat.{MemWhat}
 use Rattle.mw_isa.specs.declared.memory.MemWhat.TheVariants.{Load, Store, Conditional, Zero, Clean, Icbi}
+use Rattle.mw_isa.specs.declared.memory.MemOp.{MemOp}
 use Rattle.mw_isa.specs.declared.operation.BranchRow.{BranchRow}
 use Rattle.mw_isa.specs.declared.operation.BranchRow.TheVariants.{B, Bc, Bclr, Bcctr, Bctar}
 use Rattle.mw_isa.specs.declared.operation.Operation.{Operation}
-use Rattle.mw_isa.specs.declared.operation.Operation.TheVariants.{Alu, Product, Quotient, Branch, Field, Fields, Pick, Trap, Storage, Hint, Later}
+use Rattle.mw_isa.specs.declared.operation.Operation.TheVariants.{Alu, Product, Quotient, Branch, Field, Fields, Pick, Trap, Storage, Hint, Call, Later}
 use Rattle.mw_isa.specs.declared.outcome.Operands.{Operands}
 use Rattle.mw_isa.specs.declared.outcome.Outcome.{Outcome}
-use Rattle.mw_isa.specs.declared.outcome.Outcome.TheVariants.{Long, Trap as Trapped}
+use Rattle.mw_isa.specs.declared.outcome.Outcome.TheVariants.{Long, Memory, Trap as Trapped}
 use Rattle.mw_isa.specs.declared.regs.Regs.{Regs}
 use Rattle.mw_isa.specs.declared.slot.Slot.{Slot}
 use Rattle.mw_isa.specs.declared.slot.Slot.TheVariants.{Gpr, CrField, Xer, Lr, Ctr}
@@ -20,8 +21,9 @@ use Rattle.mw_isa.specs.declared.vector.Vector.TheVariants.{Program}
 use Rattle.mw_isa.specs.Branches.{count_of, falls, is_taken, word_address}
 use Rattle.mw_isa.specs.Condition.{cr_bit}
 use Rattle.mw_isa.specs.Endings.{slot_if, writes_field, writes_xer}
-use Rattle.mw_isa.specs.Execute.{arithmetic_of, behind_insn, branch_of, branch_to, effect_of, exec_of, field_of, fields_of, goal_of, pick_of, storage_of, target_of, trap_cause, trap_of, traps, updated_of, written_of}
+use Rattle.mw_isa.specs.Execute.{access_of, arithmetic_of, behind_insn, branch_of, branch_to, call, effect_of, exec_of, field_of, fields_of, goal_of, is_refused, pick_of, refusal, storage_of, target_of, trap_of, traps, updated_of, written_of}
 use Rattle.mw_isa.specs.Fetch.{behind}
+use Rattle.mw_isa.specs.Msr.{bit_at, trap_place}
 use Rattle.mw_isa.specs.Operations.{operations}
 use Rattle.mw_isa.specs.Places.{Code, Distance, AreLimited, HasLimits, branch_roles, operand_of, places_of}
 use Rattle.mw_isa.specs.Reads.{register_at}
@@ -65,9 +67,14 @@ goal-aligned Bcctr insn o at h a = word-aligned o.ctr
 goal-aligned Bctar insn o at h a = word-aligned o.tar
 
 -- a trap or what follows
-trap-aligned : (b : Bool) (insn : Insn) (at : ℕ) (regs : Regs) → IsAligned at → IsAligned (next_of insn (cond b (Trapped Program trap_cause) (branch_to (behind_insn insn at))) regs at)
+trap-aligned : (b : Bool) (insn : Insn) (at : ℕ) (regs : Regs) → IsAligned at → IsAligned (next_of insn (cond b (Trapped Program (bit_at trap_place)) (branch_to (behind_insn insn at))) regs at)
 trap-aligned true insn at regs a = a
 trap-aligned false insn at regs a = behind_insn-aligned insn at a
+
+-- a refusal or what follows an access
+refused-aligned : (b : Bool) (insn : Insn) (op : MemOp) (at : ℕ) (regs : Regs) → IsAligned at → IsAligned (next_of insn (cond b refusal (Memory op)) regs at)
+refused-aligned true insn op at regs a = a
+refused-aligned false insn op at regs a = behind_insn-aligned insn at a
 
 effect-aligned : (operation : Operation) (insn : Insn) (o : Operands) (at : ℕ) (outcome : Outcome) (regs : Regs) → HasLimits insn operation → effect_of operation insn o at ≡ Some outcome → IsAligned at → IsAligned (next_of insn outcome regs at)
 effect-aligned (Alu row) insn o at outcome regs h e a =
@@ -94,11 +101,14 @@ effect-aligned (Trap row) insn o at outcome regs h e a =
     subst (λ (v : Outcome). IsAligned (next_of insn v regs at)) is (trap-aligned (traps row insn o) insn at regs a)
 effect-aligned (Storage row) insn o at outcome regs h e a =
     let is : storage_of row insn o at ≡ outcome = cc in
-    subst (λ (v : Outcome). IsAligned (next_of insn v regs at)) is (behind_insn-aligned insn at a)
+    subst (λ (v : Outcome). IsAligned (next_of insn v regs at)) is (refused-aligned (is_refused row.privilege insn o.msr) insn (access_of row insn o at) at regs a)
 effect-aligned Hint insn o at outcome regs h e a =
     let is : branch_to (behind_insn insn at) ≡ outcome = cc in
     subst (λ (v : Outcome). IsAligned (next_of insn v regs at)) is (behind_insn-aligned insn at a)
-effect-aligned Later insn o at outcome regs h e a = cc
+effect-aligned Call insn o at outcome regs h e a =
+    let is : call ≡ outcome = cc in
+    subst (λ (v : Outcome). IsAligned (next_of insn v regs at)) is a
+effect-aligned (Later privilege) insn o at outcome regs h e a = cc
 
 exec-aligned : (operation : Option Operation) (insn : Insn) (o : Operands) (at : ℕ) (outcome : Outcome) (regs : Regs) → ((known : Operation) → operation ≡ Some known → HasLimits insn known) → option_and_then (λ known. effect_of known insn o at) operation ≡ Some outcome → IsAligned at → IsAligned (next_of insn outcome regs at)
 exec-aligned None insn o at outcome regs h e a = cc
@@ -156,7 +166,8 @@ few-by (Pick row) insn e = few-picked (register_at insn (places_of (Pick row)).w
 few-by (Trap row) insn e = omega arith
 few-by (Storage row) insn e = few-accessed row.what (written_of (places_of (Storage row)) insn) (updated_of row (places_of (Storage row)) insn)
 few-by Hint insn e = omega arith
-few-by Later insn e = omega arith
+few-by Call insn e = omega arith
+few-by (Later privilege) insn e = omega arith
 
 -- no row but mtcrf and mtocrf writes more than three registers
 pub few-targets : (insn : Insn) (operation : Operation) → slice_get operations insn.row ≡ Some operation → sets_fields operation ≡ false → length (targets_of insn) ≤ 3

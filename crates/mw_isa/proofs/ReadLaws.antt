@@ -11,13 +11,13 @@ use Rattle.mw_isa.specs.declared.memory.MemWhat.{MemWhat}
 use Rattle.mw_isa.specs.declared.memory.MemWhat.TheVariants.{Load, Store, Conditional, Zero, Clean, Icbi}
 use Rattle.mw_isa.specs.declared.operation.Ending.{Ending}
 use Rattle.mw_isa.specs.declared.operation.Operation.{Operation}
-use Rattle.mw_isa.specs.declared.operation.Operation.TheVariants.{Alu, Product, Quotient, Branch, Field, Fields, Pick, Trap, Storage, Hint, Later}
+use Rattle.mw_isa.specs.declared.operation.Operation.TheVariants.{Alu, Product, Quotient, Branch, Field, Fields, Pick, Trap, Storage, Hint, Call, Later}
 use Rattle.mw_isa.specs.declared.outcome.Operands.{Operands}
 use Rattle.mw_isa.specs.declared.outcome.Target.{Target}
 use Rattle.mw_isa.specs.declared.long.LongOp.{LongOp}
 use Rattle.mw_isa.specs.declared.long.LongOp.TheVariants.{Mul, Div}
 use Rattle.mw_isa.specs.declared.outcome.Outcome.{Outcome}
-use Rattle.mw_isa.specs.declared.outcome.Outcome.TheVariants.{Long, Trap as Trapped}
+use Rattle.mw_isa.specs.declared.outcome.Outcome.TheVariants.{Long, Memory, Trap as Trapped}
 use Rattle.mw_isa.specs.declared.place.Places.{Places}
 use Rattle.mw_isa.specs.declared.slot.Slot.{Slot}
 use Rattle.mw_isa.specs.declared.slot.Slot.TheVariants.{Gpr, CrField, Xer, Lr, Ctr, Tar}
@@ -31,9 +31,11 @@ use Rattle.mw_isa.specs.Endings.{slot_if, writes_field, writes_xer}
 use Rattle.mw_isa.specs.Special.{bo_of, fields_in, named_slots, nothing, slots_in, special_of, special_slots}
 use Rattle.mw_isa.specs.Xer.{bits_after, xer_bits}
 use Rattle.mw_isa.specs.Storage.{access_targets, update_targets}
-use Rattle.mw_isa.specs.Execute.{end_with, ended, out_of, effect_of, arithmetic_of, product_by, quotient_by, branch_of, count_target, link_target, field_of, field_targets, fields_of, pick_of, picked_of, result_at, trap_cause, trap_of, traps, storage_of, branch_to, behind_insn, exec_of}
+use Rattle.mw_isa.specs.Execute.{access_of, is_refused, refusal, end_with, ended, out_of, effect_of, arithmetic_of, product_by, quotient_by, branch_of, count_target, link_target, field_of, field_targets, fields_of, pick_of, picked_of, result_at, trap_of, traps, storage_of, branch_to, behind_insn, exec_of}
 use Rattle.mw_isa.specs.Finish.{bits_behind, finished}
+use Rattle.mw_isa.specs.Msr.{bit_at, trap_place}
 use Rattle.mw_isa.specs.Operations.{operations}
+use Rattle.mw_isa.specs.Raises.{outcome_raises}
 use Rattle.mw_isa.specs.Places.{operand_of, places_of}
 use Rattle.mw_isa.specs.Reads.{Agree, chosen_digits, held, no_sources, operands_at, operands_by, operands_in, part_if, read_slots, reads_by, reads_of, sources_at, register_at}
 use Rattle.mw_isa.specs.Slots.{bits_of, bits_upon, bits_with, known, slots_of}
@@ -151,7 +153,7 @@ chosen_digits-agree view other mask (suc n) agree =
     ap₂ (λ (x : ℕ) (y : ℕ). x * 16 + y % 16) (chosen_digits-agree view other mask n both.0) (part_if-agree view other (is_chosen mask n) (CrField n) both.1)
 
 -- two views that agree on a list agree on its first register, if there is one, and on the others
-agree-front : (view other : Slot → ℕ) (slot : Option Slot) (slots : List Slot) → Agree view other (slots_in slot ++ slots) → (held view slot ≡ held other slot) × Agree view other slots
+pub agree-front : (view other : Slot → ℕ) (slot : Option Slot) (slots : List Slot) → Agree view other (slots_in slot ++ slots) → (held view slot ≡ held other slot) × Agree view other slots
 agree-front view other None slots agree = (refl, agree)
 agree-front view other (Some slot) slots agree = (agree.0, agree.1)
 
@@ -224,52 +226,61 @@ result-slots None value = refl
 result-slots (Some slot) value = refl
 
 -- a trap writes none
-trap-slots : (b : Bool) (next : ℕ) → written_slots (cond b (Trapped Program trap_cause) (branch_to next)) ≡ []
+trap-slots : (b : Bool) (next : ℕ) → written_slots (cond b (Trapped Program (bit_at trap_place)) (branch_to next)) ≡ []
 trap-slots true next = refl
 trap-slots false next = refl
 
--- what an operation comes to writes the registers that it is known to write
-effect-slots : (operation : Operation) (insn : Insn) (o : Operands) (cia : ℕ) (outcome : Outcome) → effect_of operation insn o cia ≡ Some outcome → written_slots outcome ≡ targets_by operation insn
-effect-slots (Alu row) insn o cia outcome e =
+-- an access, that isn't refused, writes its own
+access-written : (b : Bool) (op : MemOp) (outcome : Outcome) → cond b refusal (Memory op) ≡ outcome → outcome_raises outcome ≡ None → written_slots outcome ≡ access_slots op.what op.to op.update
+access-written true op outcome is calm =
+    let raised : outcome_raises refusal ≡ None = ap outcome_raises is ∙ calm in
+    cc
+access-written false op outcome is calm = ap written_slots (sym is)
+
+-- what an operation comes to writes the registers that it is known to write, if it raises no interrupt
+effect-slots : (operation : Operation) (insn : Insn) (o : Operands) (cia : ℕ) (outcome : Outcome) → effect_of operation insn o cia ≡ Some outcome → outcome_raises outcome ≡ None → written_slots outcome ≡ targets_by operation insn
+effect-slots (Alu row) insn o cia outcome e calm =
     let is : arithmetic_of row insn o cia ≡ outcome = cc in
     ap written_slots (sym is) ∙ ended-slots row.ending (places_of (Alu row)) insn (out_of row insn o cia) o.xer
-effect-slots (Product row) insn o cia outcome e =
+effect-slots (Product row) insn o cia outcome e calm =
     let is : Long (product_by row insn o) ≡ outcome = cc in
     ap written_slots (sym is)
-effect-slots (Quotient row) insn o cia outcome e =
+effect-slots (Quotient row) insn o cia outcome e calm =
     let is : Long (quotient_by row insn o) ≡ outcome = cc in
     ap written_slots (sym is)
-effect-slots (Branch row) insn o cia outcome e =
+effect-slots (Branch row) insn o cia outcome e calm =
     let is : branch_of row insn o cia ≡ outcome = cc in
     ap written_slots (sym is) ∙ branch-slots (bo_of row insn) insn.lk o.ctr cia (falls (bo_of row insn)) refl
-effect-slots (Field row) insn o cia outcome e =
+effect-slots (Field row) insn o cia outcome e calm =
     let is : field_of row insn o cia ≡ outcome = cc in
     ap written_slots (sym is)
-effect-slots Fields insn o cia outcome e =
+effect-slots Fields insn o cia outcome e calm =
     let is : fields_of insn o cia ≡ outcome = cc in
     ap written_slots (sym is) ∙ fields-slots (operand_of insn 0) o.a 8
-effect-slots (Pick row) insn o cia outcome e =
+effect-slots (Pick row) insn o cia outcome e calm =
     let is : pick_of row insn o cia ≡ outcome = cc in
     ap written_slots (sym is) ∙ result-slots (register_at insn (places_of (Pick row)).written) (picked_of row insn o cia)
-effect-slots (Trap row) insn o cia outcome e =
+effect-slots (Trap row) insn o cia outcome e calm =
     let is : trap_of row insn o cia ≡ outcome = cc in
     ap written_slots (sym is) ∙ trap-slots (traps row insn o) (behind_insn insn cia)
-effect-slots (Storage row) insn o cia outcome e =
+effect-slots (Storage row) insn o cia outcome e calm =
     let is : storage_of row insn o cia ≡ outcome = cc in
-    ap written_slots (sym is)
-effect-slots Hint insn o cia outcome e =
+    access-written (is_refused row.privilege insn o.msr) (access_of row insn o cia) outcome is calm
+effect-slots Hint insn o cia outcome e calm =
     let is : branch_to (behind_insn insn cia) ≡ outcome = cc in
     ap written_slots (sym is)
-effect-slots Later insn o cia outcome e = cc
+effect-slots Call insn o cia outcome e calm = cc
+effect-slots (Later privilege) insn o cia outcome e calm = cc
 
-slots-by : (operation : Option Operation) (insn : Insn) (o : Operands) (cia : ℕ) (outcome : Outcome) → option_and_then (λ known. effect_of known insn o cia) operation ≡ Some outcome → written_slots outcome ≡ option_map_or (λ known. targets_by known insn) operation []
-slots-by None insn o cia outcome e = cc
-slots-by (Some operation) insn o cia outcome e = effect-slots operation insn o cia outcome e
+slots-by : (operation : Option Operation) (insn : Insn) (o : Operands) (cia : ℕ) (outcome : Outcome) → option_and_then (λ known. effect_of known insn o cia) operation ≡ Some outcome → outcome_raises outcome ≡ None → written_slots outcome ≡ option_map_or (λ known. targets_by known insn) operation []
+slots-by None insn o cia outcome e calm = cc
+slots-by (Some operation) insn o cia outcome e calm = effect-slots operation insn o cia outcome e calm
 
--- an instruction's outcome writes the registers that the instruction is known to write, in their order
-pub exec-targets : (insn : Insn) (o : Operands) (cia : ℕ) (outcome : Outcome) → exec_of insn o cia ≡ Some outcome → written_slots outcome ≡ targets_of insn
+-- an instruction's outcome that raises no interrupt writes the registers that the instruction is known to write, in their
+-- order
+pub exec-targets : (insn : Insn) (o : Operands) (cia : ℕ) (outcome : Outcome) → exec_of insn o cia ≡ Some outcome → outcome_raises outcome ≡ None → written_slots outcome ≡ targets_of insn
 unfolding exec_of targets_of
-exec-targets insn o cia outcome e = slots-by (slice_get operations insn.row) insn o cia outcome e
+exec-targets insn o cia outcome e calm = slots-by (slice_get operations insn.row) insn o cia outcome e calm
 
 -- a long operation writes these registers, whatever its unit answers
 pub finished-slots : (op : LongOp) (out : AluOut) (xer : ℕ) → slots_of (finished op out xer) ≡ long_slots op

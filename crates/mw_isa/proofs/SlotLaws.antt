@@ -1,6 +1,6 @@
 -- What holds of registers by name: one that is set has its new content and every other its old one, and two sets that
 -- share no bit share no register.
-use Rattle.std.proofs.Common.{◌≡◌, ℕ, ◌+◌, ◌-◌, ◌*◌, ◌/◌, ◌%◌, ◌^◌, ◌<◌, ◌≤◌, ◌≢◌, ⊎_elim, min, max, true, length, List, [], ◌∷◌, refl, sym, ap, ◌∙◌, bit_and, bit_or, arith, get_or-set_same, get_or-set_other, pow_pos, mod-lt}
+use Rattle.std.proofs.Common.{◌≡◌, ℕ, ◌+◌, ◌-◌, ◌*◌, ◌/◌, ◌%◌, ◌^◌, ◌<◌, ◌≤◌, ◌≢◌, ⊎_elim, min, max, length, List, [], ◌∷◌, refl, sym, ap, ◌∙◌, bit_and, bit_or, arith, get_or-set_same, get_or-set_other, pow_pos, mod-lt}
 use Rattle.std.proofs.Math.Nat.{div-lt_iff_lt-mul, mul-add-div_right, mul-add-mod_self_right, div-div-eq-div-mul, div-eq_of_lt}
 use Rattle.std.proofs.lemmas.Bool.{cases_order}
 use Rattle.std.proofs.lemmas.Nat.{pow-add, div-add-mod', mul-add-lt}

@@ -1,8 +1,10 @@
 -- What a step is, from its parts.
-use Rattle.std.proofs.Common.{◌≡◌, ℕ, Bool, true, false, not, ◌&&◌, Option, Some, None, Ok, Err, option_and_then, is_some, refl, ap, ap₂, ◌∙◌, eq-eqb, cond}
+use Rattle.std.proofs.Common.{◌≡◌, ℕ, Bool, true, false, not, ◌&&◌, Option, Some, None, Ok, Err, option_map, option_and_then, is_some, if◌then◌else◌, refl, ap, ap₂, ◌∙◌, eq-eqb, cond}
 use Rattle.mw_decode.specs.declared.insn.Insn.{Insn}
+use Rattle.std.specs.Option.{option_map_or}
 use Rattle.mw_decode.specs.declared.insn.Decoded.{Decoded}
-use Rattle.mw_isa.specs.declared.event.Event.TheVariants.{Retire}
+use Rattle.mw_decode.specs.declared.insn.Decoded.TheVariants.{Insn as Is, Unavailable, Alignment, Illegal}
+use Rattle.mw_isa.specs.declared.event.Event.TheVariants.{Retire, Trap as Trapped}
 use Rattle.mw_isa.specs.declared.fetched.Fetched.{Fetched}
 use Rattle.mw_isa.specs.declared.memory.MemOp.{MemOp}
 use Rattle.mw_isa.specs.declared.memory.MemWhat.{MemWhat}
@@ -10,7 +12,10 @@ use Rattle.mw_isa.specs.declared.memory.MemWhat.TheVariants.{Load, Store, Condit
 use Rattle.mw_isa.specs.declared.outcome.Outcome.{Outcome}
 use Rattle.mw_isa.specs.declared.outcome.Outcome.TheVariants.{Done, Long, Memory, Trap}
 use Rattle.mw_isa.specs.declared.pages.Stretches.{Stretches}
-use Rattle.mw_isa.specs.declared.slot.Slot.{Slot}
+use Rattle.mw_isa.specs.declared.raised.Raised.{Raised}
+use Rattle.mw_isa.specs.Raises.{Placed, cut_raised, decoded_raises, earlier, fetch_raises, words_raise}
+use Rattle.mw_isa.specs.Vectors.{address_of}
+use Rattle.mw_isa.specs.Words.{insn_in, insn_of, decoded_of}
 use Rattle.mw_isa.specs.State.{State}
 use Rattle.mw_isa.specs.Pages.{is_in_ram}
 use Rattle.mw_isa.specs.Fetch.{fetch_at, fetched, is_cut, word_of, suffix_of}
@@ -21,8 +26,8 @@ use Rattle.mw_soc.specs.DeviceData.{DeviceData}
 use Rattle.mw_soc.specs.Devices.{cycle_of}
 use Rattle.mw_soc.proofs.Laws.{cycle-device_load, cycle-device_store}
 use Rattle.mw_isa.specs.Storage.{accessed, is_reserved, stores, devices_loaded, devices_stored}
-use Rattle.mw_isa.specs.Step.{IsKnown, Raised, Placed, UnderWay, Stepped, step, stepped, under_way, insn_in, insn_of, decoded_of, outcome_of, placed_of, written, state_behind, after_of, raises_of, end_raises, builds, builds_by, is_built_insn, is_built_outcome, earlier, words_raise}
-use Rattle.mw_isa.specs.Replay.{acted, retires, same_suffix}
+use Rattle.mw_isa.specs.Step.{IsKnown, UnderWay, step, under_way, outcome_of, placed_of, written, state_behind, after_of, raises_of, regs_raised, end_raises, marked, builds, builds_by, is_built_outcome}
+use Rattle.mw_isa.specs.Replay.{acted, raises, retires, same_suffix}
 
 -- what an instruction carries that comes to an outcome
 abbrev pub known : Fetched → Insn → Outcome → State → UnderWay
@@ -32,7 +37,7 @@ known words insn outcome state = record {
   words = Some words;
   insn = Some insn;
   outcome = Some outcome;
-  placed = placed_of outcome state.regs.msr;
+  placed = placed_of outcome;
 }
 
 -- what an instruction comes to, once it is known
@@ -48,7 +53,7 @@ carried words insn outcome state = record {
   words = words;
   insn = insn;
   outcome = outcome;
-  placed = option_and_then (λ o. placed_of o state.regs.msr) outcome;
+  placed = option_and_then placed_of outcome;
 }
 
 -- the next instruction carries what is known of it
@@ -59,30 +64,25 @@ under_way-known words insn outcome state k =
     ∙ ap (λ (i : Option Insn). carried (Some words) i (outcome_of i state.regs.cia state.regs) state) k.insn_is
     ∙ ap (λ (o : Option Outcome). carried (Some words) (Some insn) o state) (outcome_of-known insn outcome state k.outcome_is)
 
--- and its step is that of what it carries
-pub step-known : (words : Fetched) (insn : Insn) (outcome : Outcome) (state : State) → IsKnown words insn outcome state → step state ≡ stepped (known words insn outcome state) state
-unfolding step
-step-known words insn outcome state k = ap (λ (it : UnderWay). stepped it state) (under_way-known words insn outcome state k)
-
 -- whether the next instruction is built, once it is known what it comes to
-pub builds-known : (words : Fetched) (insn : Insn) (outcome : Outcome) (state : State) → IsKnown words insn outcome state → builds state ≡ (is_built_row insn && is_built_outcome (Some outcome) (placed_of outcome state.regs.msr))
+pub builds-known : (words : Fetched) (insn : Insn) (outcome : Outcome) (state : State) → IsKnown words insn outcome state → builds state ≡ (is_built_row insn && is_built_outcome outcome (placed_of outcome))
 unfolding builds
 builds-known words insn outcome state k = ap builds_by (under_way-known words insn outcome state k)
 
--- words that are no instruction, or are cut off, aren't built
-pub builds-none : (words : Fetched) (state : State) → fetched state ≡ Some words → insn_of words ≡ None → builds state ≡ false
-unfolding builds under_way
+-- words that are no instruction are built: they raise an interrupt
+pub builds-none : (words : Fetched) (state : State) → fetched state ≡ Some words → insn_of words ≡ None → builds state ≡ true
+unfolding builds under_way carried outcome_of
 builds-none words state w none =
-    ap (λ (o : Option Fetched). is_built_insn (option_and_then insn_of o) && is_built_outcome (under_way state).outcome (under_way state).placed) w
-    ∙ ap (λ (i : Option Insn). is_built_insn i && is_built_outcome (under_way state).outcome (under_way state).placed) none
+    ap (λ (o : Option Fetched). builds_by (carried o (option_and_then insn_of o) (outcome_of (option_and_then insn_of o) state.regs.cia state.regs) state)) w
+    ∙ ap (λ (i : Option Insn). builds_by (carried (Some words) i (outcome_of i state.regs.cia state.regs) state)) none
 
--- nor is an instruction of a row or a form that isn't
+-- an instruction of a row that isn't is not
 pub builds-not : (words : Fetched) (insn : Insn) (state : State) → fetched state ≡ Some words → insn_of words ≡ Some insn → is_built_row insn ≡ false → builds state ≡ false
-unfolding builds under_way
+unfolding builds under_way carried
 builds-not words insn state w is unbuilt =
-    ap (λ (o : Option Fetched). is_built_insn (option_and_then insn_of o) && is_built_outcome (under_way state).outcome (under_way state).placed) w
-    ∙ ap (λ (i : Option Insn). is_built_insn i && is_built_outcome (under_way state).outcome (under_way state).placed) is
-    ∙ ap (λ (b : Bool). b && is_built_outcome (under_way state).outcome (under_way state).placed) unbuilt
+    ap (λ (o : Option Fetched). builds_by (carried o (option_and_then insn_of o) (outcome_of (option_and_then insn_of o) state.regs.cia state.regs) state)) w
+    ∙ ap (λ (i : Option Insn). builds_by (carried (Some words) i (outcome_of i state.regs.cia state.regs) state)) is
+    ∙ ap (λ (b : Bool). b && option_map_or (λ (o : Outcome). is_built_outcome o (option_and_then placed_of (outcome_of (Some insn) state.regs.cia state.regs))) (outcome_of (Some insn) state.regs.cia state.regs) true) unbuilt
 
 -- words that are cut off are no instruction
 pub insn_of-cut : (words : Fetched) → is_cut words ≡ true → insn_of words ≡ None
@@ -92,33 +92,60 @@ insn_of-cut words cut = ap (λ (b : Bool). cond b None (insn_in (decoded_of word
 pub insn_of-whole : (words : Fetched) (what : Decoded) → is_cut words ≡ false → decoded_of words ≡ what → insn_of words ≡ insn_in what
 insn_of-whole words what whole is = ap₂ (λ (b : Bool) (w : Decoded). cond b None (insn_in w)) whole is
 
--- no part of the chain raises anything yet
-end_raises-none : (outcome : Outcome) (placed : Option Placed) (msr : ℕ) → end_raises outcome placed msr ≡ None
-end_raises-none (Done targets next) placed msr = refl
-end_raises-none (Long op) placed msr = refl
-end_raises-none (Trap vector cause) placed msr = refl
-end_raises-none (Memory op) None msr = refl
-end_raises-none (Memory op) (Some placed) msr = refl
+-- words that are an instruction aren't cut off, and decode to it
+is-by : (cut : Bool) (what : Decoded) (insn : Insn) → cond cut None (insn_in what) ≡ Some insn → (cut ≡ false) × (what ≡ Is insn)
+is-by true what insn e = cc
+is-by false (Is other) insn e =
+    let same : other ≡ insn = cc in
+    (refl, ap Is same)
+is-by false (Unavailable facility) insn e = cc
+is-by false (Alignment ra rb disp) insn e = cc
+is-by false Illegal insn e = cc
 
-parts_raise-none : (words : Option Fetched) (outcome : Option Outcome) (placed : Option Placed) (view : Slot → ℕ) (msr : ℕ) → earlier (option_and_then (λ (w : Fetched). words_raise w view) words) (option_and_then (λ (o : Outcome). end_raises o placed msr) outcome) ≡ None
-parts_raise-none None None placed view msr = refl
-parts_raise-none None (Some outcome) placed view msr = end_raises-none outcome placed msr
-parts_raise-none (Some words) None placed view msr = refl
-parts_raise-none (Some words) (Some outcome) placed view msr = end_raises-none outcome placed msr
+-- what words and what they come to raise, by the words' own part
+chain_of : Fetched → Option Raised → Option Raised → Option Raised
+chain_of words by_words by_outcome = option_map (marked (Some words)) (earlier (if is_cut words then Some cut_raised else None) (earlier by_words by_outcome))
 
-pub raises_of-none : (it : UnderWay) (view : Slot → ℕ) (msr : ℕ) → raises_of it view msr ≡ None
-raises_of-none it view msr = parts_raise-none it.words it.outcome it.placed view msr
+-- what is raised behind words that were fetched
+trap-chain : (words : Fetched) (state : State) → fetched state ≡ Some words → (step state).trap ≡ chain_of words (words_raise words (get_slot state.regs)) (option_and_then (λ (o : Outcome). end_raises o (under_way state).placed) (under_way state).outcome)
+unfolding step under_way chain_of
+trap-chain words state w =
+    ap (λ (o : Option Fetched). option_map (marked o) (earlier (fetch_raises (fetch_at state.regs.cia) o) (earlier (option_and_then (λ (x : Fetched). words_raise x (get_slot state.regs)) o) (option_and_then (λ (x : Outcome). end_raises x (under_way state).placed) (under_way state).outcome)))) w
 
--- so no step has a trap
-step-calm : (state : State) → (step state).trap ≡ None
+-- a step whose words are cut off traps by its fetch
+pub trapped-fetch : (words : Fetched) (state : State) → fetched state ≡ Some words → is_cut words ≡ true → (step state).trap ≡ Some (marked (Some words) cut_raised)
+unfolding chain_of
+trapped-fetch words state w cut =
+    trap-chain words state w
+    ∙ ap (λ (b : Bool). option_map (marked (Some words)) (earlier (cond b (Some cut_raised) None) (earlier (words_raise words (get_slot state.regs)) (option_and_then (λ (o : Outcome). end_raises o (under_way state).placed) (under_way state).outcome)))) cut
+
+-- one whose words raise an interrupt traps by its words
+pub trapped-words : (words : Fetched) (raised : Raised) (state : State) → fetched state ≡ Some words → is_cut words ≡ false → words_raise words (get_slot state.regs) ≡ Some raised → (step state).trap ≡ Some (marked (Some words) raised)
+unfolding chain_of
+trapped-words words raised state w whole raises =
+    trap-chain words state w
+    ∙ ap₂ (λ (b : Bool) (r : Option Raised). option_map (marked (Some words)) (earlier (cond b (Some cut_raised) None) (earlier r (option_and_then (λ (o : Outcome). end_raises o (under_way state).placed) (under_way state).outcome)))) whole raises
+
+-- one that comes to an outcome traps by that, or doesn't
+pub trap-known : (words : Fetched) (insn : Insn) (outcome : Outcome) (state : State) → IsKnown words insn outcome state → (step state).trap ≡ option_map (marked (Some words)) (end_raises outcome (placed_of outcome))
+unfolding chain_of
+trap-known words insn outcome state k =
+    let is = is-by (is_cut words) (decoded_of words) insn k.insn_is in
+    trap-chain words state k.words_are
+    ∙ ap (λ (it : UnderWay). chain_of words (words_raise words (get_slot state.regs)) (option_and_then (λ (o : Outcome). end_raises o it.placed) it.outcome)) (under_way-known words insn outcome state k)
+    ∙ ap₂ (λ (b : Bool) (d : Decoded). option_map (marked (Some words)) (earlier (cond b (Some cut_raised) None) (earlier (decoded_raises d (get_slot state.regs)) (end_raises outcome (placed_of outcome))))) is.0 is.1
+
+-- a step that traps takes its interrupt, and changes nothing else
+pub after-trapped : (raised : Raised) (state : State) → (step state).trap ≡ Some raised → (step state).after ≡ record state { regs = regs_raised raised state.regs.cia state.regs }
+unfolding step under_way
+after-trapped raised state e = ap (λ (trap : Option Raised). after_of trap (under_way state) state) e
+
+-- one that doesn't leaves what its outcome leaves
+pub after-known : (words : Fetched) (insn : Insn) (outcome : Outcome) (state : State) → IsKnown words insn outcome state → (step state).trap ≡ None → (step state).after ≡ state_behind (Some insn) (Some outcome) (placed_of outcome) state.regs.cia state
 unfolding step
-step-calm state = raises_of-none (under_way state) (get_slot state.regs) state.regs.msr
-
--- what an instruction carries that raises nothing leaves what its outcome leaves
-pub after-known : (words : Fetched) (insn : Insn) (outcome : Outcome) (state : State) → IsKnown words insn outcome state → (step state).after ≡ state_behind (Some insn) (Some outcome) (placed_of outcome state.regs.msr) state.regs.cia state
-after-known words insn outcome state k =
-    ap (λ (s : Stepped). s.after) (step-known words insn outcome state k)
-    ∙ ap (λ (trap : Option Raised). after_of trap (known words insn outcome state) state) (raises_of-none (known words insn outcome state) (get_slot state.regs) state.regs.msr)
+after-known words insn outcome state k calm =
+    ap (λ (trap : Option Raised). after_of trap (under_way state) state) calm
+    ∙ ap (λ (it : UnderWay). after_of None it state) (under_way-known words insn outcome state k)
 
 -- a suffix is itself
 same_suffix-refl : (suffix : Option ℕ) → same_suffix suffix suffix ≡ true
@@ -129,16 +156,22 @@ same_suffix-refl (Some x) = eq-eqb x x refl
 both : {a b : Bool} → a ≡ true → b ≡ true → (a && b) ≡ true
 both p q = ap₂ (λ (x : Bool) (y : Bool). x && y) p q
 
--- an instruction that is built retires, by the words that it is made of
-retires-built : (state : State) → builds state ≡ true → retires state state.regs.cia (word_of (fetched state)) (suffix_of (fetched state)) ≡ true
+-- an instruction that is built and raises nothing retires, by the words that it is made of
+retires-built : (state : State) → builds state ≡ true → (step state).trap ≡ None → retires state state.regs.cia (word_of (fetched state)) (suffix_of (fetched state)) ≡ true
 unfolding step under_way
-retires-built state b =
-    both b (both (ap (λ (trap : Option Raised). not (is_some trap)) (step-calm state)) (both (eq-eqb state.regs.cia state.regs.cia refl) (both (eq-eqb (word_of (fetched state)) (word_of (fetched state)) refl) (same_suffix-refl (suffix_of (fetched state))))))
+retires-built state b calm =
+    both b (both (ap (λ (trap : Option Raised). not (is_some trap)) calm) (both (eq-eqb state.regs.cia state.regs.cia refl) (both (eq-eqb (word_of (fetched state)) (word_of (fetched state)) refl) (same_suffix-refl (suffix_of (fetched state))))))
 
 -- and leaves what its step leaves
-pub acted-built : (cycle : ℕ) (state : State) → builds state ≡ true → acted (Retire cycle state.regs.cia (word_of (fetched state)) (suffix_of (fetched state))) state ≡ Some (step state).after
+pub acted-retired : (cycle : ℕ) (state : State) → builds state ≡ true → (step state).trap ≡ None → acted (Retire cycle state.regs.cia (word_of (fetched state)) (suffix_of (fetched state))) state ≡ Some (step state).after
 unfolding acted
-acted-built cycle state b = ap (λ (c : Bool). cond c (Some (step state).after) None) (retires-built state b)
+acted-retired cycle state b calm = ap (λ (c : Bool). cond c (Some (step state).after) None) (retires-built state b calm)
+
+-- one that raises an interrupt traps to its vector
+pub acted-trapped : (cycle : ℕ) (raised : Raised) (state : State) → builds state ≡ true → (step state).trap ≡ Some raised → acted (Trapped cycle state.regs.cia raised.vector) state ≡ Some (step state).after
+unfolding acted
+acted-trapped cycle raised state b e =
+    ap (λ (c : Bool). cond c (Some (step state).after) None) (both b (both (eq-eqb state.regs.cia state.regs.cia refl) (ap (λ (trap : Option Raised). raises trap raised.vector) e ∙ eq-eqb (address_of raised.vector) (address_of raised.vector) refl)))
 
 -- of two devices with one cycle either has it
 one-cycle : (b : Bool) (x y : DeviceData) (cycle : ℕ) → cycle_of x ≡ cycle → cycle_of y ≡ cycle → cycle_of (cond b x y) ≡ cycle
@@ -187,4 +220,4 @@ after_of-cycle None it state = behind-cycle it.insn it.outcome it.placed it.cia 
 -- a step leaves the devices' cycle
 pub step-cycle : (state : State) → cycle_of (step state).after.devices ≡ cycle_of state.devices
 unfolding step
-step-cycle state = after_of-cycle (raises_of (under_way state) (get_slot state.regs) state.regs.msr) (under_way state) state
+step-cycle state = after_of-cycle (raises_of (under_way state) (get_slot state.regs)) (under_way state) state

@@ -3,7 +3,7 @@ use Rattle.std.proofs.Common.{◌≡◌, ℕ, zero, suc, Bool, true, ◌&&◌, L
 use Rattle.std.proofs.lemmas.Bool.{and_parts}
 use Rattle.mw_isa.specs.declared.memory.MemWhat.{MemWhat}
 use Rattle.mw_isa.specs.declared.operation.Operation.{Operation}
-use Rattle.mw_isa.specs.declared.operation.Operation.TheVariants.{Alu, Product, Quotient, Branch, Field, Fields, Pick, Trap, Storage, Hint, Later}
+use Rattle.mw_isa.specs.declared.operation.Operation.TheVariants.{Alu, Product, Quotient, Branch, Field, Fields, Pick, Trap, Storage, Hint, Call, Later}
 use Rattle.mw_isa.specs.declared.operation.StorageRow.{StorageRow}
 use Rattle.mw_isa.specs.Operations.{operations, operation_lines}
 use Rattle.mw_isa.specs.declared.memory.MemOp.{MemOp}
@@ -23,7 +23,8 @@ sized_operation (Pick row) = true
 sized_operation (Trap row) = true
 sized_operation (Storage row) = is_sized_by row.what row.len
 sized_operation Hint = true
-sized_operation Later = true
+sized_operation Call = true
+sized_operation (Later privilege) = true
 
 -- so it is of each operation
 abbrev all_sized : List Operation → Bool

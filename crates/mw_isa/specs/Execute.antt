@@ -1,6 +1,6 @@
 -- What an instruction comes to, from the registers that it reads (Book I, fixed-point, storage access and branch
 -- instructions).
-use Rattle.std.specs.Prelude.{ℕ, zero, suc, ◌+◌, ◌-◌, ◌%◌, ◌^◌, ◌==◌, Bool, true, false, not, nat_le, if◌then◌else◌, List, [], ◌∷◌, ◌++◌, Option, Some, None, option_map, slice_get, option_and_then}
+use Rattle.std.specs.Prelude.{ℕ, zero, suc, ◌+◌, ◌-◌, ◌%◌, ◌^◌, ◌==◌, Bool, true, false, not, ◌&&◌, nat_le, if◌then◌else◌, List, [], ◌∷◌, ◌++◌, Option, Some, None, option_map, slice_get, option_and_then}
 use Rattle.std.specs.Option.{option_map_or}
 use Rattle.mw_alu.specs.declared.op.AluOut.{AluOut}
 use Rattle.mw_alu.specs.Alu.{alu_of}
@@ -11,7 +11,7 @@ use Rattle.mw_muldiv.specs.Division.{Division}
 use Rattle.mw_muldiv.specs.Multiplication.{Multiplication}
 use Rattle.mw_tables.specs.Matching.{has_prefix}
 use Rattle.mw_isa.specs.declared.operation.Operation.{Operation}
-use Rattle.mw_isa.specs.declared.operation.Operation.TheVariants.{Alu, Product, Quotient, Branch, Field, Fields, Pick, Trap, Storage, Hint, Later}
+use Rattle.mw_isa.specs.declared.operation.Operation.TheVariants.{Alu, Product, Quotient, Branch, Field, Fields, Pick, Trap, Storage, Hint, Call, Later}
 use Rattle.mw_isa.specs.declared.operation.AluRow.{AluRow}
 use Rattle.mw_isa.specs.declared.operation.Carry.{Carry}
 use Rattle.mw_isa.specs.declared.operation.Carry.TheVariants.{NoCarry, Ca, Ov}
@@ -22,6 +22,8 @@ use Rattle.mw_isa.specs.declared.long.LongOp.{LongOp}
 use Rattle.mw_isa.specs.declared.long.LongOp.TheVariants.{Mul, Div}
 use Rattle.mw_isa.specs.declared.operation.ProductRow.{ProductRow}
 use Rattle.mw_isa.specs.declared.operation.QuotientRow.{QuotientRow}
+use Rattle.mw_isa.specs.declared.operation.Privilege.{Privilege}
+use Rattle.mw_isa.specs.declared.operation.Privilege.TheVariants.{Never, Always, Heavy}
 use Rattle.mw_isa.specs.declared.operation.StorageRow.{StorageRow}
 use Rattle.mw_isa.specs.declared.operation.BranchRow.{BranchRow}
 use Rattle.mw_isa.specs.declared.operation.BranchRow.TheVariants.{B, Bc, Bclr, Bcctr, Bctar}
@@ -32,6 +34,7 @@ use Rattle.mw_isa.specs.declared.operation.PickRow.{PickRow}
 use Rattle.mw_isa.specs.declared.operation.PickRow.TheVariants.{Select, All, Chosen, Sign, Bit}
 use Rattle.mw_isa.specs.declared.operation.TrapRow.{TrapRow}
 use Rattle.mw_isa.specs.declared.operation.TrapRow.TheVariants.{TrapNumber, TrapRegister}
+use Rattle.mw_isa.specs.declared.memory.MemOp.{MemOp}
 use Rattle.mw_isa.specs.declared.outcome.Operands.{Operands}
 use Rattle.mw_isa.specs.declared.outcome.Outcome.{Outcome}
 use Rattle.mw_isa.specs.declared.outcome.Outcome.TheVariants.{Done, Long, Memory, Trap as Trapped}
@@ -39,10 +42,11 @@ use Rattle.mw_isa.specs.declared.outcome.Target.{Target}
 use Rattle.mw_isa.specs.declared.place.Places.{Places}
 use Rattle.mw_isa.specs.declared.slot.Slot.{Slot}
 use Rattle.mw_isa.specs.declared.slot.Slot.TheVariants.{CrField, Xer, Lr, Ctr}
-use Rattle.mw_isa.specs.declared.vector.Vector.TheVariants.{Program}
+use Rattle.mw_isa.specs.declared.vector.Vector.TheVariants.{Program, SystemCall}
 use Rattle.mw_isa.specs.declared.xer.XerBits.{XerBits}
 use Rattle.mw_isa.specs.Fetch.{behind}
 use Rattle.mw_isa.specs.Long.{added_by, dividend_by, divides_words, factor_in}
+use Rattle.mw_isa.specs.Msr.{bit_at, pr_place, privileged_place, trap_place}
 use Rattle.mw_isa.specs.Operations.{operations}
 use Rattle.mw_isa.specs.Places.{places_of, operand_of}
 use Rattle.mw_isa.specs.Reads.{register_at}
@@ -51,7 +55,7 @@ use Rattle.mw_isa.specs.Special.{bi_of, bo_of}
 use Rattle.mw_isa.specs.Branches.{count_of, falls, is_taken, word_address}
 use Rattle.mw_isa.specs.Condition.{compare_field, cr_bit, cr_field, field_of_bit, flags_field, has_byte, is_chosen, is_in_range, is_trapping, logic_of, match_field, with_bit}
 use Rattle.mw_isa.specs.Endings.{writes_field, writes_xer}
-use Rattle.mw_isa.specs.Xer.{bits_after, result_field, xer_bits, xer_of}
+use Rattle.mw_isa.specs.Xer.{bits_after, has_bit, result_field, xer_bits, xer_of}
 
 -- the address behind an instruction: behind its word, or behind its prefix and its suffix
 abbrev pub behind_insn : Insn → ℕ → ℕ
@@ -293,13 +297,9 @@ abbrev pub traps : TrapRow → Insn → Operands → Bool
 traps (TrapNumber long) insn o = is_trapping (operand_of insn 0) long o.a (b_of (places_of (Trap (TrapNumber long))) insn o)
 traps (TrapRegister long) insn o = is_trapping (operand_of insn 0) long o.a o.b
 
--- the bit of SRR1 that tells a trap, counted from the left of 64
-abbrev pub trap_cause : ℕ
-trap_cause = 2 ^ (63 - 46)
-
 -- the rows that trap
 abbrev pub trap_of : TrapRow → Insn → Operands → ℕ → Outcome
-trap_of row insn o cia = if traps row insn o then Trapped Program trap_cause else branch_to (behind_insn insn cia)
+trap_of row insn o cia = if traps row insn o then Trapped Program (bit_at trap_place) else branch_to (behind_insn insn cia)
 
 -- EA ← (RA|0) + EXTS(D), or (RA|0) + (RB), or CIA + EXTS(D)
 abbrev pub effective_of : Places → Insn → Operands → ℕ → ℕ
@@ -309,16 +309,43 @@ effective_of places insn o cia = wrapped_sum (a_of places insn o cia) (b_of plac
 abbrev pub updated_of : StorageRow → Places → Insn → Option ℕ
 updated_of row places insn = if row.update then option_map (operand_of insn) places.base else None
 
--- the rows that access storage: RT ← MEM(EA), MEM(EA) ← (RS), and their kin; with update RA ← EA
-abbrev pub storage_of : StorageRow → Insn → Operands → ℕ → Outcome
-storage_of row insn o cia = Memory (record {
+-- the access of a row
+abbrev pub access_of : StorageRow → Insn → Operands → ℕ → MemOp
+access_of row insn o cia = record {
   what = row.what;
   ea = effective_of (places_of (Storage row)) insn o cia;
   len = row.len;
   value = o.c;
   to = written_of (places_of (Storage row)) insn;
   update = updated_of row (places_of (Storage row)) insn;
-})
+}
+
+-- an instruction is privileged
+abbrev pub is_privileged : Privilege → Insn → Bool
+is_privileged Never insn = false
+is_privileged Always insn = true
+is_privileged Heavy insn = operand_of insn 0 == 2
+
+-- some instruction of the row is
+abbrev pub is_ever : Privilege → Bool
+is_ever Never = false
+is_ever privilege = true
+
+-- it is refused under MSR: in problem state
+abbrev pub is_refused : Privilege → Insn → ℕ → Bool
+is_refused privilege insn msr = is_privileged privilege insn && has_bit msr pr_place
+
+-- the interrupt of a privileged instruction in problem state
+abbrev pub refusal : Outcome
+refusal = Trapped Program (bit_at privileged_place)
+
+-- the rows that access storage: RT ← MEM(EA), MEM(EA) ← (RS), and their kin; with update RA ← EA
+abbrev pub storage_of : StorageRow → Insn → Operands → ℕ → Outcome
+storage_of row insn o cia = if is_refused row.privilege insn o.msr then refusal else Memory (access_of row insn o cia)
+
+-- a system call
+abbrev pub call : Outcome
+call = Trapped SystemCall 0
 
 -- what an operation comes to; one that isn't built comes to nothing
 abbrev pub effect_of : Operation → Insn → Operands → ℕ → Option Outcome
@@ -332,15 +359,24 @@ effect_of (Pick row) insn o cia = Some (pick_of row insn o cia)
 effect_of (Trap row) insn o cia = Some (trap_of row insn o cia)
 effect_of (Storage row) insn o cia = Some (storage_of row insn o cia)
 effect_of Hint insn o cia = Some (branch_to (behind_insn insn cia))
-effect_of Later insn o cia = None
+effect_of Call insn o cia = Some call
+effect_of (Later privilege) insn o cia = None
 
 -- what an instruction at an address comes to; none where its row isn't built, or the table has no such row
 unfoldable pub exec_of : Insn → Operands → ℕ → Option Outcome
 exec_of insn operands cia = option_and_then (λ operation. effect_of operation insn operands cia) (slice_get operations insn.row)
 
+-- an operation can raise an interrupt by itself
+abbrev pub can_raise : Operation → Bool
+can_raise (Trap row) = true
+can_raise (Storage row) = is_ever row.privilege
+can_raise Call = true
+can_raise (Later privilege) = is_ever privilege
+can_raise operation = false
+
 -- the operation is built
 abbrev pub is_built_operation : Operation → Bool
-is_built_operation Later = false
+is_built_operation (Later privilege) = false
 is_built_operation operation = true
 
 -- the row of an instruction is built

@@ -1,6 +1,7 @@
 -- In reading order: the state and its start; one instruction, what it does by its row, what it reads, comes to and
 -- writes; runs of events; their text and what it spells.
 pub mod Vectors
+pub mod Msr
 pub mod State
 pub mod Start
 pub mod Pages
@@ -16,9 +17,12 @@ pub mod Special
 pub mod Reads
 pub mod Long
 pub mod Execute
+pub mod Words
 pub mod Finish
 pub mod Targets
 pub mod Storage
+pub mod Raises
+pub mod Take
 pub mod Step
 pub mod Replay
 pub mod Unbuilt

@@ -9,7 +9,7 @@ use Rattle.mw_muldiv.specs.declared.numbers.MulKind.TheVariants.{Signed, Unsigne
 use Rattle.mw_isa.specs.declared.memory.MemWhat.{MemWhat}
 use Rattle.mw_isa.specs.declared.memory.MemWhat.TheVariants.{Load, Store, Conditional, Zero, Clean, Icbi}
 use Rattle.mw_isa.specs.declared.operation.Operation.{Operation}
-use Rattle.mw_isa.specs.declared.operation.Operation.TheVariants.{Alu, Product, Quotient, Branch, Field, Fields, Pick, Trap, Storage, Hint, Later}
+use Rattle.mw_isa.specs.declared.operation.Operation.TheVariants.{Alu, Product, Quotient, Branch, Field, Fields, Pick, Trap, Storage, Hint, Call, Later}
 use Rattle.mw_isa.specs.declared.operation.Inputs.{Inputs}
 use Rattle.mw_isa.specs.declared.operation.Inputs.TheVariants.{BaseNumber, SourceNumber, Two, TwoKind, Three, One, Relative, Next, WordShift, Shift, WordMask, WordMaskBy, WordInsert, Left, Right, Middle, Insert, LeftBy, RightBy}
 use Rattle.mw_isa.specs.declared.operation.Carry.{Carry}
@@ -26,6 +26,7 @@ use Rattle.mw_isa.specs.declared.operation.BitLogic.TheVariants.{Crnor, Crandc, 
 use Rattle.mw_isa.specs.declared.operation.PickRow.TheVariants.{Select, All, Chosen, Sign, Bit}
 use Rattle.mw_isa.specs.declared.operation.TrapRow.TheVariants.{TrapNumber, TrapRegister}
 use Rattle.mw_isa.specs.declared.operation.Address.TheVariants.{Displaced, Indexed, Block, Prefixed}
+use Rattle.mw_isa.specs.declared.operation.Privilege.TheVariants.{Never, Always, Heavy}
 use Rattle.mw_isa.specs.declared.operation.StorageRow.{StorageRow}
 
 -- a row: what the unit does, from which operands, with which carry, and what is written beside the result
@@ -62,7 +63,7 @@ modulo kind = record (quotient kind) { rest = true }
 
 -- an access of so many bytes at RA|0 and a displacement
 abbrev pub displaced : MemWhat → ℕ → StorageRow
-displaced what len = record { what = what; len = len; address = Displaced; update = false }
+displaced what len = record { what = what; len = len; address = Displaced; update = false; privilege = Never }
 
 -- a load of so many bytes, extended with zeros
 abbrev pub load : ℕ → StorageRow
@@ -104,9 +105,13 @@ updating row = record row { update = true }
 abbrev pub prefixed : StorageRow → StorageRow
 prefixed row = record row { address = Prefixed }
 
+-- the same, privileged
+abbrev pub privileged : StorageRow → StorageRow
+privileged row = record row { privilege = Always }
+
 -- a cache row: so many bytes at RA|0 and RB
 abbrev pub block : MemWhat → ℕ → StorageRow
-block what len = record { what = what; len = len; address = Block; update = false }
+block what len = record { what = what; len = len; address = Block; update = false; privilege = Never }
 
 -- a line of the list: a row by its name, and what it does
 pub record OperationLine : Type 0 where
@@ -301,36 +306,36 @@ operation_lines =
     ∷ on (codes "stdcx.") (Storage (indexed (conditional 8)))
     ∷ on (codes "stbcx.") (Storage (indexed (conditional 1)))
     ∷ on (codes "sthcx.") (Storage (indexed (conditional 2)))
-    ∷ on (codes "lwzcix") (Storage (indexed (load 4)))
-    ∷ on (codes "lhzcix") (Storage (indexed (load 2)))
-    ∷ on (codes "lbzcix") (Storage (indexed (load 1)))
-    ∷ on (codes "ldcix") (Storage (indexed (load 8)))
-    ∷ on (codes "stwcix") (Storage (indexed (store 4)))
-    ∷ on (codes "sthcix") (Storage (indexed (store 2)))
-    ∷ on (codes "stbcix") (Storage (indexed (store 1)))
-    ∷ on (codes "stdcix") (Storage (indexed (store 8)))
+    ∷ on (codes "lwzcix") (Storage (privileged (indexed (load 4))))
+    ∷ on (codes "lhzcix") (Storage (privileged (indexed (load 2))))
+    ∷ on (codes "lbzcix") (Storage (privileged (indexed (load 1))))
+    ∷ on (codes "ldcix") (Storage (privileged (indexed (load 8))))
+    ∷ on (codes "stwcix") (Storage (privileged (indexed (store 4))))
+    ∷ on (codes "sthcix") (Storage (privileged (indexed (store 2))))
+    ∷ on (codes "stbcix") (Storage (privileged (indexed (store 1))))
+    ∷ on (codes "stdcix") (Storage (privileged (indexed (store 8))))
     ∷ on (codes "dcbst") (Storage (block Clean 1))
     ∷ on (codes "dcbf") (Storage (block Clean 1))
     ∷ on (codes "dcbtst") Hint
     ∷ on (codes "dcbt") Hint
     ∷ on (codes "icbi") (Storage (block Icbi 1))
     ∷ on (codes "dcbz") (Storage (block Zero 64))
-    ∷ on (codes "sc") Later
-    ∷ on (codes "rfid") Later
-    ∷ on (codes "hrfid") Later
-    ∷ on (codes "isync") Later
-    ∷ on (codes "sync") Later
-    ∷ on (codes "eieio") Later
-    ∷ on (codes "tlbsync") Later
-    ∷ on (codes "mfmsr") Later
-    ∷ on (codes "mtmsr") Later
-    ∷ on (codes "mtmsrd") Later
-    ∷ on (codes "tlbie") Later
-    ∷ on (codes "tlbiel") Later
-    ∷ on (codes "mfspr") Later
-    ∷ on (codes "mtspr") Later
-    ∷ on (codes "mftb") Later
-    ∷ on (codes "darn") Later
+    ∷ on (codes "sc") Call
+    ∷ on (codes "rfid") (Later Always)
+    ∷ on (codes "hrfid") (Later Always)
+    ∷ on (codes "isync") (Later Never)
+    ∷ on (codes "sync") (Later Heavy)
+    ∷ on (codes "eieio") (Later Never)
+    ∷ on (codes "tlbsync") (Later Always)
+    ∷ on (codes "mfmsr") (Later Always)
+    ∷ on (codes "mtmsr") (Later Always)
+    ∷ on (codes "mtmsrd") (Later Always)
+    ∷ on (codes "tlbie") (Later Always)
+    ∷ on (codes "tlbiel") (Later Always)
+    ∷ on (codes "mfspr") (Later Never)
+    ∷ on (codes "mtspr") (Later Never)
+    ∷ on (codes "mftb") (Later Never)
+    ∷ on (codes "darn") (Later Never)
     ∷ on (codes "paddi") (alu Paddi Relative NoCarry Plain)
     ∷ on (codes "plwz") (Storage (prefixed (load 4)))
     ∷ on (codes "plbz") (Storage (prefixed (load 1)))

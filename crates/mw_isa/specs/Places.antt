@@ -6,7 +6,7 @@ use Rattle.mw_tables.specs.Layouts.{operand_at}
 use Rattle.mw_isa.specs.declared.memory.MemWhat.{MemWhat}
 use Rattle.mw_isa.specs.declared.memory.MemWhat.TheVariants.{Load, Store, Conditional}
 use Rattle.mw_isa.specs.declared.operation.Operation.{Operation}
-use Rattle.mw_isa.specs.declared.operation.Operation.TheVariants.{Alu, Product, Quotient, Branch, Field, Fields, Pick, Trap, Storage, Hint, Later}
+use Rattle.mw_isa.specs.declared.operation.Operation.TheVariants.{Alu, Product, Quotient, Branch, Field, Fields, Pick, Trap, Storage, Hint, Call, Later}
 use Rattle.mw_isa.specs.declared.operation.Address.{Address}
 use Rattle.mw_isa.specs.declared.operation.Address.TheVariants.{Displaced, Indexed, Block, Prefixed}
 use Rattle.mw_isa.specs.declared.operation.BranchRow.{BranchRow}
@@ -163,7 +163,8 @@ roles_by (Pick row) = Some (pick_roles row)
 roles_by (Trap row) = Some (trap_roles row)
 roles_by (Storage row) = Some (access_roles row.address row.what)
 roles_by Hint = None
-roles_by Later = None
+roles_by Call = None
+roles_by (Later privilege) = None
 
 -- the roles, each by a test
 abbrev pub is_written : Role → Bool

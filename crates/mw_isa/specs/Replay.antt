@@ -7,7 +7,8 @@ use Rattle.mw_isa.specs.Vectors.{address_of}
 use Rattle.mw_isa.specs.State.{State, brought}
 use Rattle.mw_isa.specs.Start.{Boot, start}
 use Rattle.mw_isa.specs.Fetch.{word_of, suffix_of}
-use Rattle.mw_isa.specs.Step.{Raised, step, builds}
+use Rattle.mw_isa.specs.declared.raised.Raised.{Raised}
+use Rattle.mw_isa.specs.Step.{step, builds}
 
 -- the cycle of an event
 abbrev pub cycle_of_event : Event → ℕ

@@ -1,6 +1,6 @@
 -- The registers that instructions read and write, by name, and what is set there (Book I, the branch facility's and the
 -- fixed-point facility's registers).
-use Rattle.std.specs.Prelude.{ℕ, ⊤, ◌≢◌, ◌+◌, ◌-◌, ◌*◌, ◌/◌, ◌%◌, ◌^◌, ◌<◌, ◌==◌, Bool, true, false, List, [], ◌∷◌, map, Option, Some, None, slice_index, slice_set, bit_or}
+use Rattle.std.specs.Prelude.{ℕ, ⊤, ◌≢◌, ◌+◌, ◌-◌, ◌*◌, ◌/◌, ◌%◌, ◌^◌, ◌<◌, List, [], ◌∷◌, map, Option, Some, None, slice_index, slice_set, bit_or}
 use Rattle.std.specs.Option.{option_map_or}
 use Rattle.mw_isa.specs.declared.outcome.Target.{Target}
 use Rattle.mw_isa.specs.declared.regs.Regs.{Regs}

@@ -3,6 +3,7 @@ use Rattle.std.specs.Prelude.{ℕ, List, None, replicate}
 use Rattle.mw_bus.specs.Memory.{ram_of}
 use Rattle.mw_isa.specs.declared.regs.Regs.{Regs}
 use Rattle.mw_soc.specs.Devices.{start_devices}
+use Rattle.mw_isa.specs.Msr.{fixed_msr}
 use Rattle.mw_isa.specs.State.{State}
 
 -- what a board is started with: the bytes that stand in RAM, and the bytes that arrive at its UART, each behind the cycle
@@ -21,7 +22,7 @@ start_regs = record {
   ctr = 0;
   tar = 0;
   cia = 0;
-  msr = 0x9000_0000_0000_1001;
+  msr = fixed_msr;
   srr0 = 0;
   srr1 = 0;
   hsrr0 = 0;

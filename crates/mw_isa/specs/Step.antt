@@ -1,10 +1,9 @@
 -- One instruction, carried out on a state whose devices stand at its cycle (Books I to III): what is known of it before
 -- anything changes, the chain of what raises an interrupt, of which the first ends it, and what it leaves.
-use Rattle.std.specs.Prelude.{ℕ, ⊤, ◌≡◌, Bool, true, false, ◌&&◌, if◌then◌else◌, List, [], ◌∷◌, Option, Some, None, option_and_then, Result, Ok, Err}
+use Rattle.std.specs.Prelude.{ℕ, ⊤, ◌≡◌, ◌+◌, Bool, true, false, not, ◌&&◌, if◌then◌else◌, List, [], ◌∷◌, Option, Some, None, is_some, option_map, option_and_then, unwrap_or, Result, Ok, Err}
+use Rattle.std.specs.Option.{option_map_or}
 use Rattle.mw_decode.specs.declared.insn.Insn.{Insn}
-use Rattle.mw_decode.specs.declared.insn.Decoded.{Decoded}
-use Rattle.mw_decode.specs.declared.insn.Decoded.TheVariants.{Insn as Is, Unavailable, Alignment, Illegal}
-use Rattle.mw_decode.specs.Decode.{decode_of}
+use Rattle.mw_decode.specs.Decode.{is_prefix}
 use Rattle.mw_isa.specs.declared.access.Touch.{Touch}
 use Rattle.mw_isa.specs.declared.access.Deed.{Deed}
 use Rattle.mw_isa.specs.declared.access.Deed.TheVariants.{Plain}
@@ -13,32 +12,26 @@ use Rattle.mw_isa.specs.declared.long.LongOp.{LongOp}
 use Rattle.mw_isa.specs.declared.memory.MemOp.{MemOp}
 use Rattle.mw_isa.specs.declared.outcome.Outcome.{Outcome}
 use Rattle.mw_isa.specs.declared.outcome.Outcome.TheVariants.{Done, Long, Memory, Trap}
-use Rattle.mw_isa.specs.declared.pages.PageFault.{PageFault}
 use Rattle.mw_isa.specs.declared.pages.StorageFault.{StorageFault}
 use Rattle.mw_isa.specs.declared.pages.Stretches.{Stretches}
+use Rattle.mw_isa.specs.declared.raised.Raised.{Raised}
 use Rattle.mw_isa.specs.declared.regs.Regs.{Regs}
 use Rattle.mw_isa.specs.declared.slot.Slot.{Slot}
 use Rattle.mw_isa.specs.declared.vector.Vector.{Vector}
+use Rattle.mw_isa.specs.declared.vector.Vector.TheVariants.{SystemCall}
 use Rattle.mw_isa.specs.State.{State}
-use Rattle.mw_isa.specs.Pages.{touch_of, touches_of, real_at, stretches_of}
-use Rattle.mw_isa.specs.Fetch.{word_page, fetch_at, fetched, is_cut}
+use Rattle.mw_isa.specs.Pages.{touch_of, real_at, stretches_of}
+use Rattle.mw_isa.specs.Fetch.{behind, word_page, fetch_at, fetched}
 use Rattle.mw_isa.specs.Slots.{get_slot, set_targets}
 use Rattle.mw_isa.specs.Reads.{operands_of}
 use Rattle.mw_isa.specs.Long.{IsStarted, result_of}
 use Rattle.mw_isa.specs.Execute.{exec_of, behind_insn, is_built_row}
 use Rattle.mw_isa.specs.Finish.{finished}
-use Rattle.mw_isa.specs.Storage.{IsSized, OnMemory, IsPlaced, pages_of, accessed, is_built_access, deed_by}
-
--- an interrupt that an instruction raises: its vector, its cause in SRR1, and DAR and DSISR where they change
-pub record Raised : Type 0 where
-  pub vector : Vector
-  pub cause : ℕ
-  pub dar : Option ℕ
-  pub dsisr : Option ℕ
-
--- where an access stands: its stretches, or the fault of a page
-abbrev pub Placed : Type 0
-Placed = Result Stretches PageFault
+use Rattle.mw_isa.specs.Storage.{IsSized, OnMemory, IsPlaced, pages_of, accessed, raises_alignment, reaches_controller, deed_by}
+use Rattle.mw_isa.specs.Raises.{Placed, access_raises, earlier, fetch_raises, outcome_raises, words_raise}
+use Rattle.mw_isa.specs.Take.{taken}
+use Rattle.mw_isa.specs.Msr.{bit_at, prefixed_place}
+use Rattle.mw_isa.specs.Words.{insn_of}
 
 -- what an instruction carries while it is under way, each part where the one before it is there and raises nothing
 pub record UnderWay : Type 0 where
@@ -64,52 +57,16 @@ pub record Stepped : Type 0 where
   pub deed : Deed
   pub after : State
 
--- the instruction that words are, if they are one
-abbrev pub insn_in : Decoded → Option Insn
-insn_in (Is insn) = Some insn
-insn_in (Unavailable facility) = None
-insn_in (Alignment ra rb disp) = None
-insn_in Illegal = None
-
--- what words are
-abbrev pub decoded_of : Fetched → Decoded
-decoded_of words = decode_of words.word words.suffix
-
--- the instruction that words are, if none is cut off and they are one
-abbrev pub insn_of : Fetched → Option Insn
-insn_of words = if is_cut words then None else insn_in (decoded_of words)
-
 -- what an instruction at an address comes to, if there is one
 unfoldable pub outcome_of : Option Insn → ℕ → Regs → Option Outcome
 outcome_of insn at regs = option_and_then (λ insn. exec_of insn (operands_of insn regs) at) insn
 
--- the interrupt that the fetch raises; none does yet
-abbrev pub fetch_raises : Result ℕ StorageFault → Option Raised
-fetch_raises real = None
-
--- the interrupt that the words raise, the registers being seen so; none does yet
-abbrev pub words_raise : Fetched → (Slot → ℕ) → Option Raised
-words_raise words view = None
-
--- the interrupt that the outcome raises before its access is placed, under MSR; none does yet
-abbrev pub outcome_raises : Outcome → ℕ → Option Raised
-outcome_raises outcome msr = None
-
--- the interrupt that an access raises where it stands; none does yet
-abbrev pub access_raises : MemOp → Placed → Option Raised
-access_raises op placed = None
-
--- where the access of an outcome stands, if it has one and raises nothing before
-abbrev pub placed_by : Option Raised → Outcome → Option Placed
-placed_by (Some raised) outcome = None
-placed_by None (Done targets next) = None
-placed_by None (Long op) = None
-placed_by None (Trap vector cause) = None
-placed_by None (Memory op) = Some (stretches_of real_at (pages_of op))
-
--- where the access of an outcome under MSR stands
-abbrev pub placed_of : Outcome → ℕ → Option Placed
-placed_of outcome msr = placed_by (outcome_raises outcome msr) outcome
+-- where the access of an outcome stands, if it has one
+abbrev pub placed_of : Outcome → Option Placed
+placed_of (Done targets next) = None
+placed_of (Long op) = None
+placed_of (Trap vector cause) = None
+placed_of (Memory op) = Some (stretches_of real_at (pages_of op))
 
 -- what an instruction at an address carries, from its fetch and its words on
 abbrev pub under_way_of : Result ℕ StorageFault → Option Fetched → ℕ → Regs → UnderWay
@@ -119,54 +76,53 @@ under_way_of real words at regs = record {
   words = words;
   insn = option_and_then insn_of words;
   outcome = outcome_of (option_and_then insn_of words) at regs;
-  placed = option_and_then (λ outcome. placed_of outcome regs.msr) (outcome_of (option_and_then insn_of words) at regs);
+  placed = option_and_then placed_of (outcome_of (option_and_then insn_of words) at regs);
 }
 
 -- what the next instruction carries
 unfoldable pub under_way : State → UnderWay
 under_way state = under_way_of (fetch_at state.regs.cia) (fetched state) state.regs.cia state.regs
 
--- of two interrupts, each of which may be there, the first
-abbrev pub earlier : Option Raised → Option Raised → Option Raised
-earlier (Some raised) later = Some raised
-earlier None later = later
+-- the interrupt that an outcome raises, by itself or by its access where it stands
+abbrev pub end_raises : Outcome → Option Placed → Option Raised
+end_raises (Memory op) placed = option_and_then (λ place. (access_raises op place).trap) placed
+end_raises outcome placed = outcome_raises outcome
 
--- the interrupt that the access of an outcome raises
-abbrev pub place_raises : Outcome → Option Placed → Option Raised
-place_raises (Done targets next) placed = None
-place_raises (Long op) placed = None
-place_raises (Trap vector cause) placed = None
-place_raises (Memory op) placed = option_and_then (access_raises op) placed
+-- the bit of SRR1 that tells of a prefix, where words were fetched and have one
+abbrev pub prefix_cause : Option Fetched → ℕ
+prefix_cause None = 0
+prefix_cause (Some words) = if is_prefix words.word then bit_at prefixed_place else 0
 
--- the interrupt that an outcome raises, by itself or by its access
-abbrev pub end_raises : Outcome → Option Placed → ℕ → Option Raised
-end_raises outcome placed msr = earlier (outcome_raises outcome msr) (place_raises outcome placed)
+-- an interrupt with that bit, whatever raised it
+abbrev pub marked : Option Fetched → Raised → Raised
+marked words raised = record raised { cause = raised.cause + prefix_cause words }
 
--- the interrupt that an instruction raises, the registers being seen so and under MSR: the first of the fetch, of the
--- words, of the outcome and of the access
-abbrev pub raises_of : UnderWay → (Slot → ℕ) → ℕ → Option Raised
-raises_of it view msr =
-    earlier (fetch_raises it.real) (earlier (option_and_then (λ words. words_raise words view) it.words) (option_and_then (λ outcome. end_raises outcome it.placed msr) it.outcome))
+-- the interrupt that an instruction raises, but for that bit, the registers being seen so: the first of the fetch, of the
+-- words, and of what they come to
+abbrev pub first_raised : UnderWay → (Slot → ℕ) → Option Raised
+first_raised it view =
+    earlier (fetch_raises it.real it.words) (earlier (option_and_then (λ words. words_raise words view) it.words) (option_and_then (λ outcome. end_raises outcome it.placed) it.outcome))
 
--- the words were fetched, aren't cut off, and are an instruction of a row that is built
+-- the interrupt that an instruction raises
+abbrev pub raises_of : UnderWay → (Slot → ℕ) → Option Raised
+raises_of it view = option_map (marked it.words) (first_raised it view)
+
+-- the words are of a row that is built, if they are an instruction
 abbrev pub is_built_insn : Option Insn → Bool
-is_built_insn None = false
+is_built_insn None = true
 is_built_insn (Some insn) = is_built_row insn
 
--- an outcome that is built: it is no trap; its pages have no fault, and its access raises no interrupt and reaches no
--- device that isn't built
-abbrev pub is_built_outcome : Option Outcome → Option Placed → Bool
-is_built_outcome None placed = false
-is_built_outcome (Some (Done targets next)) placed = true
-is_built_outcome (Some (Long op)) placed = true
-is_built_outcome (Some (Trap vector cause)) placed = false
-is_built_outcome (Some (Memory op)) None = false
-is_built_outcome (Some (Memory op)) (Some (Err fault)) = false
-is_built_outcome (Some (Memory op)) (Some (Ok at)) = is_built_access op at
+-- an outcome that is built: the pages of its access, if it has one, have no fault, and none of its bytes is one of the
+-- interrupt controller
+abbrev pub is_built_outcome : Outcome → Option Placed → Bool
+is_built_outcome (Memory op) (Some (Ok at)) = not (reaches_controller at)
+is_built_outcome (Memory op) (Some (Err fault)) = false
+is_built_outcome (Memory op) None = false
+is_built_outcome outcome placed = true
 
 -- an instruction that is built: all that isn't stands here, beside the chain
 abbrev pub builds_by : UnderWay → Bool
-builds_by it = is_built_insn it.insn && is_built_outcome it.outcome it.placed
+builds_by it = is_some it.words && (is_built_insn it.insn && option_map_or (λ outcome. is_built_outcome outcome it.placed) it.outcome true)
 
 -- the next instruction is built
 unfoldable pub builds : State → Bool
@@ -202,20 +158,25 @@ state_behind (Some insn) (Some outcome) placed at state = at_address (next_of in
 state_behind (Some insn) None placed at state = state
 state_behind None outcome placed at state = state
 
--- the state that an instruction leaves. One that raises an interrupt changes nothing of what it would have changed; what
--- the interrupt changes isn't built
+-- the address that an interrupt saves: that of the instruction, for a system call the one behind it
+abbrev pub saved_by : Vector → ℕ → ℕ
+saved_by SystemCall at = behind at
+saved_by vector at = at
+
+-- the registers behind an interrupt that the instruction at an address raises: it is taken, and DAR and DSISR are set where
+-- it sets them
+abbrev pub regs_raised : Raised → ℕ → Regs → Regs
+regs_raised raised at regs = record (taken raised.vector raised.cause (saved_by raised.vector at) regs) { dar = unwrap_or raised.dar regs.dar; dsisr = unwrap_or raised.dsisr regs.dsisr }
+
+-- the state that an instruction leaves. One that raises an interrupt changes nothing of what it would have changed
 abbrev pub after_of : Option Raised → UnderWay → State → State
-after_of (Some raised) it state = state
+after_of (Some raised) it state = record state { regs = regs_raised raised it.cia state.regs }
 after_of None it state = state_behind it.insn it.outcome it.placed it.cia state
 
--- the accesses to data of an outcome that has come to them, in order; also where one of them has a fault
-abbrev pub data_of : Option Outcome → Option Placed → List Touch
-data_of (Some (Memory op)) (Some placed) = touches_of (pages_of op)
-data_of (Some (Memory op)) None = []
-data_of (Some (Long op)) placed = []
-data_of (Some (Trap vector cause)) placed = []
-data_of (Some (Done targets next)) placed = []
-data_of None placed = []
+-- the accesses to data that an outcome came to, in order
+abbrev pub data_of : Outcome → Option Placed → List Touch
+data_of (Memory op) (Some placed) = (access_raises op placed).reached
+data_of outcome placed = []
 
 -- what an outcome does to changed code, where its access stands
 abbrev pub deed_at : Option Outcome → Option Placed → State → Deed
@@ -237,14 +198,14 @@ abbrev pub stepped_by : UnderWay → Option Raised → State → Stepped
 stepped_by it trap state = record {
   carried = it;
   trap = trap;
-  accesses = touch_of (word_page it.cia) ∷ data_of it.outcome it.placed;
+  accesses = touch_of (word_page it.cia) ∷ option_map_or (λ outcome. data_of outcome it.placed) it.outcome [];
   deed = deed_of trap it state;
   after = after_of trap it state;
 }
 
 -- an instruction from what it carries
 abbrev pub stepped : UnderWay → State → Stepped
-stepped it state = stepped_by it (raises_of it (get_slot state.regs) state.regs.msr) state
+stepped it state = stepped_by it (raises_of it (get_slot state.regs)) state
 
 -- the next instruction
 unfoldable pub step : State → Stepped
@@ -272,10 +233,17 @@ OnLong P (Long op) = P op
 OnLong P (Trap vector cause) = Unit {0}
 OnLong P (Memory op) = Unit {0}
 
+-- a fact on the cause, where an outcome is an interrupt
+abbrev pub OnTrap : (ℕ → Type 0) → Outcome → Type 0
+OnTrap P (Done targets next) = ⊤
+OnTrap P (Long op) = ⊤
+OnTrap P (Trap vector cause) = P cause
+OnTrap P (Memory op) = ⊤
+
 -- what is known of an outcome that can be carried out: no tick of a unit is done; an access has one of its lengths, its
--- stretches are those of its pages, and it is built
+-- stretches are those of its pages, and it raises nothing
 pub record CanFinish (outcome : Outcome) (placed : Option Placed) : Type 0 where
   pub started : OnLong IsStarted outcome
   pub sized : OnMemory IsSized outcome
   pub stands : OnPlaced IsPlaced outcome placed
-  pub built : is_built_outcome (Some outcome) placed ≡ true
+  pub calm : OnPlaced (λ op at. raises_alignment op at ≡ false) outcome placed

@@ -90,7 +90,7 @@ needs_ram what = is_exclusive what
 abbrev pub is_misplaced : MemOp → Stretches → Bool
 is_misplaced op at = not (is_in_ram at) && (not (is_aligned op) || needs_ram op.what)
 
--- an access that raises an alignment interrupt (own choice; the interrupt itself is in Book III)
+-- an access that raises an alignment interrupt, before or behind its translation
 abbrev pub raises_alignment : MemOp → Stretches → Bool
 raises_alignment op at = is_unaligned_exclusive op || is_misplaced op at
 
@@ -101,10 +101,6 @@ is_controller stretch = nat_lt stretch.at 0xC000_6000 && nat_lt 0xC000_4000 (str
 -- an access has a byte there
 abbrev pub reaches_controller : Stretches → Bool
 reaches_controller at = is_controller at.first || option_map_or is_controller at.second false
-
--- an access that is built: it raises no interrupt, and doesn't reach the interrupt controller
-abbrev pub is_built_access : MemOp → Stretches → Bool
-is_built_access op at = not (raises_alignment op at) && not (reaches_controller at)
 
 -- the number of the real 64-byte block in which an access begins
 abbrev pub block_of : Stretches → ℕ

@@ -9,7 +9,7 @@ use Rattle.mw_isa.specs.declared.long.LongOp.TheVariants.{Mul, Div}
 use Rattle.mw_isa.specs.declared.operation.BranchRow.{BranchRow}
 use Rattle.mw_isa.specs.declared.operation.Ending.{Ending}
 use Rattle.mw_isa.specs.declared.operation.Operation.{Operation}
-use Rattle.mw_isa.specs.declared.operation.Operation.TheVariants.{Alu, Product, Quotient, Branch, Field, Fields, Pick, Trap, Storage, Hint, Later}
+use Rattle.mw_isa.specs.declared.operation.Operation.TheVariants.{Alu, Product, Quotient, Branch, Field, Fields, Pick, Trap, Storage, Hint, Call, Later}
 use Rattle.mw_isa.specs.declared.outcome.Outcome.{Outcome}
 use Rattle.mw_isa.specs.declared.outcome.Outcome.TheVariants.{Done, Long, Memory, Trap as Trapped}
 use Rattle.mw_isa.specs.declared.place.Places.{Places}
@@ -66,7 +66,8 @@ targets_by (Pick row) insn = slots_in (register_at insn (places_of (Pick row)).w
 targets_by (Trap row) insn = []
 targets_by (Storage row) insn = access_slots row.what (written_of (places_of (Storage row)) insn) (updated_of row (places_of (Storage row)) insn)
 targets_by Hint insn = []
-targets_by Later insn = []
+targets_by Call insn = []
+targets_by (Later privilege) insn = []
 
 -- the registers that an instruction writes, in order
 unfoldable pub targets_of : Insn → List Slot

@@ -10,11 +10,14 @@ mod events;
 mod fetched;
 mod long;
 mod memory;
+mod msr;
 mod operation;
 mod outcome;
 mod pages;
 mod place;
 mod placing;
+mod raised;
+mod raises;
 mod reading;
 mod real;
 mod regs;
@@ -36,14 +39,17 @@ pub use events::Events;
 pub use fetched::{Fetched, is_cut};
 pub use long::LongOp;
 pub use memory::{MemOp, MemWhat};
+pub use msr::{DR, EE, IR, PR, PRIVILEGED, RI, TRAP, bit_at, without_bit};
 pub use operation::{
     Addend, Address, AluRow, BitLogic, BranchRow, Carry, Ending, FieldRow, Inputs, Operation,
-    PickRow, ProductRow, QuotientRow, StorageRow, TrapRow, operation_at,
+    PickRow, Privilege, ProductRow, QuotientRow, StorageRow, TrapRow, operation_at,
 };
 pub use outcome::{Operands, Outcome, Target};
 pub use pages::{Page, PageFault, Pages, StorageFault, Stretch, Stretches};
 pub use place::Places;
 pub use placing::{code, field, mask, operand_of, places_of, register};
+pub use raised::Raised;
+pub use raises::{cut_raised, decoded_raises, marked, misaligned, raising};
 pub use reading::{SlotView, operands, reads};
 pub use real::{fetch_at, real_at};
 pub use regs::Regs;
@@ -54,4 +60,4 @@ pub use special::{bi_of, bo_of};
 pub use state::State;
 pub use vector::Vector;
 pub use writing::{field_written, targets, updated_of, written_of};
-pub use xer::{XerBits, xer_bits, xer_of};
+pub use xer::{XerBits, has_bit, xer_bits, xer_of};

@@ -29,8 +29,22 @@ pub enum Operation {
     Storage(StorageRow),
     /// A hint, which changes nothing and accesses nothing (dcbt, dcbtst, pnop).
     Hint,
+    /// A system call.
+    Call,
     /// One that isn't built yet.
-    Later,
+    Later(Privilege),
+}
+
+/// Where a row is privileged: in problem state it then raises an interrupt (Book III, privileged
+/// instructions).
+#[derive(Clone, Copy, Debug, PartialEq, Eq)]
+pub enum Privilege {
+    /// Nowhere.
+    Never,
+    /// Everywhere.
+    Always,
+    /// Where L is 2 (ptesync among the forms of sync).
+    Heavy,
 }
 
 /// A row whose result is there in one cycle (Book I, fixed-point arithmetic and logical instructions).
@@ -275,6 +289,8 @@ pub struct StorageRow {
     pub address: Address,
     /// Whether the effective address goes into RA.
     pub update: bool,
+    /// Where it is privileged.
+    pub privilege: Privilege,
 }
 
 /// The line of an arithmetic row: what the unit does, from which operands, with which carry, and what is written beside.
@@ -430,100 +446,100 @@ static OPERATIONS: [Operation; 224] = [
     Operation::Field(FieldRow::InRange), // cmprb
     Operation::Field(FieldRow::EqualsByte), // cmpeqb
     Operation::Field(FieldRow::FromXer), // mcrxrx
-    Operation::Storage(StorageRow { what: MemWhat::Load { signed: false, reversed: false, reserve: false }, len: 4, address: Address::Displaced, update: false }), // lwz
-    Operation::Storage(StorageRow { what: MemWhat::Load { signed: false, reversed: false, reserve: false }, len: 4, address: Address::Displaced, update: true }), // lwzu
-    Operation::Storage(StorageRow { what: MemWhat::Load { signed: false, reversed: false, reserve: false }, len: 1, address: Address::Displaced, update: false }), // lbz
-    Operation::Storage(StorageRow { what: MemWhat::Load { signed: false, reversed: false, reserve: false }, len: 1, address: Address::Displaced, update: true }), // lbzu
-    Operation::Storage(StorageRow { what: MemWhat::Store { reversed: false }, len: 4, address: Address::Displaced, update: false }), // stw
-    Operation::Storage(StorageRow { what: MemWhat::Store { reversed: false }, len: 4, address: Address::Displaced, update: true }), // stwu
-    Operation::Storage(StorageRow { what: MemWhat::Store { reversed: false }, len: 1, address: Address::Displaced, update: false }), // stb
-    Operation::Storage(StorageRow { what: MemWhat::Store { reversed: false }, len: 1, address: Address::Displaced, update: true }), // stbu
-    Operation::Storage(StorageRow { what: MemWhat::Load { signed: false, reversed: false, reserve: false }, len: 2, address: Address::Displaced, update: false }), // lhz
-    Operation::Storage(StorageRow { what: MemWhat::Load { signed: false, reversed: false, reserve: false }, len: 2, address: Address::Displaced, update: true }), // lhzu
-    Operation::Storage(StorageRow { what: MemWhat::Load { signed: true, reversed: false, reserve: false }, len: 2, address: Address::Displaced, update: false }), // lha
-    Operation::Storage(StorageRow { what: MemWhat::Load { signed: true, reversed: false, reserve: false }, len: 2, address: Address::Displaced, update: true }), // lhau
-    Operation::Storage(StorageRow { what: MemWhat::Store { reversed: false }, len: 2, address: Address::Displaced, update: false }), // sth
-    Operation::Storage(StorageRow { what: MemWhat::Store { reversed: false }, len: 2, address: Address::Displaced, update: true }), // sthu
-    Operation::Storage(StorageRow { what: MemWhat::Load { signed: false, reversed: false, reserve: false }, len: 8, address: Address::Displaced, update: false }), // ld
-    Operation::Storage(StorageRow { what: MemWhat::Load { signed: false, reversed: false, reserve: false }, len: 8, address: Address::Displaced, update: true }), // ldu
-    Operation::Storage(StorageRow { what: MemWhat::Load { signed: true, reversed: false, reserve: false }, len: 4, address: Address::Displaced, update: false }), // lwa
-    Operation::Storage(StorageRow { what: MemWhat::Store { reversed: false }, len: 8, address: Address::Displaced, update: false }), // std
-    Operation::Storage(StorageRow { what: MemWhat::Store { reversed: false }, len: 8, address: Address::Displaced, update: true }), // stdu
-    Operation::Storage(StorageRow { what: MemWhat::Load { signed: false, reversed: false, reserve: false }, len: 8, address: Address::Indexed, update: false }), // ldx
-    Operation::Storage(StorageRow { what: MemWhat::Load { signed: false, reversed: false, reserve: false }, len: 4, address: Address::Indexed, update: false }), // lwzx
-    Operation::Storage(StorageRow { what: MemWhat::Load { signed: false, reversed: false, reserve: false }, len: 8, address: Address::Indexed, update: true }), // ldux
-    Operation::Storage(StorageRow { what: MemWhat::Load { signed: false, reversed: false, reserve: false }, len: 4, address: Address::Indexed, update: true }), // lwzux
-    Operation::Storage(StorageRow { what: MemWhat::Load { signed: false, reversed: false, reserve: false }, len: 1, address: Address::Indexed, update: false }), // lbzx
-    Operation::Storage(StorageRow { what: MemWhat::Load { signed: false, reversed: false, reserve: false }, len: 1, address: Address::Indexed, update: true }), // lbzux
-    Operation::Storage(StorageRow { what: MemWhat::Load { signed: false, reversed: false, reserve: false }, len: 2, address: Address::Indexed, update: false }), // lhzx
-    Operation::Storage(StorageRow { what: MemWhat::Load { signed: false, reversed: false, reserve: false }, len: 2, address: Address::Indexed, update: true }), // lhzux
-    Operation::Storage(StorageRow { what: MemWhat::Load { signed: true, reversed: false, reserve: false }, len: 4, address: Address::Indexed, update: false }), // lwax
-    Operation::Storage(StorageRow { what: MemWhat::Load { signed: true, reversed: false, reserve: false }, len: 2, address: Address::Indexed, update: false }), // lhax
-    Operation::Storage(StorageRow { what: MemWhat::Load { signed: true, reversed: false, reserve: false }, len: 4, address: Address::Indexed, update: true }), // lwaux
-    Operation::Storage(StorageRow { what: MemWhat::Load { signed: true, reversed: false, reserve: false }, len: 2, address: Address::Indexed, update: true }), // lhaux
-    Operation::Storage(StorageRow { what: MemWhat::Load { signed: false, reversed: true, reserve: false }, len: 8, address: Address::Indexed, update: false }), // ldbrx
-    Operation::Storage(StorageRow { what: MemWhat::Load { signed: false, reversed: true, reserve: false }, len: 4, address: Address::Indexed, update: false }), // lwbrx
-    Operation::Storage(StorageRow { what: MemWhat::Load { signed: false, reversed: true, reserve: false }, len: 2, address: Address::Indexed, update: false }), // lhbrx
-    Operation::Storage(StorageRow { what: MemWhat::Store { reversed: false }, len: 8, address: Address::Indexed, update: false }), // stdx
-    Operation::Storage(StorageRow { what: MemWhat::Store { reversed: false }, len: 4, address: Address::Indexed, update: false }), // stwx
-    Operation::Storage(StorageRow { what: MemWhat::Store { reversed: false }, len: 8, address: Address::Indexed, update: true }), // stdux
-    Operation::Storage(StorageRow { what: MemWhat::Store { reversed: false }, len: 4, address: Address::Indexed, update: true }), // stwux
-    Operation::Storage(StorageRow { what: MemWhat::Store { reversed: false }, len: 1, address: Address::Indexed, update: false }), // stbx
-    Operation::Storage(StorageRow { what: MemWhat::Store { reversed: false }, len: 1, address: Address::Indexed, update: true }), // stbux
-    Operation::Storage(StorageRow { what: MemWhat::Store { reversed: false }, len: 2, address: Address::Indexed, update: false }), // sthx
-    Operation::Storage(StorageRow { what: MemWhat::Store { reversed: false }, len: 2, address: Address::Indexed, update: true }), // sthux
-    Operation::Storage(StorageRow { what: MemWhat::Store { reversed: true }, len: 8, address: Address::Indexed, update: false }), // stdbrx
-    Operation::Storage(StorageRow { what: MemWhat::Store { reversed: true }, len: 4, address: Address::Indexed, update: false }), // stwbrx
-    Operation::Storage(StorageRow { what: MemWhat::Store { reversed: true }, len: 2, address: Address::Indexed, update: false }), // sthbrx
-    Operation::Storage(StorageRow { what: MemWhat::Load { signed: false, reversed: false, reserve: true }, len: 4, address: Address::Indexed, update: false }), // lwarx
-    Operation::Storage(StorageRow { what: MemWhat::Load { signed: false, reversed: false, reserve: true }, len: 1, address: Address::Indexed, update: false }), // lbarx
-    Operation::Storage(StorageRow { what: MemWhat::Load { signed: false, reversed: false, reserve: true }, len: 8, address: Address::Indexed, update: false }), // ldarx
-    Operation::Storage(StorageRow { what: MemWhat::Load { signed: false, reversed: false, reserve: true }, len: 2, address: Address::Indexed, update: false }), // lharx
-    Operation::Storage(StorageRow { what: MemWhat::Conditional { reversed: false }, len: 4, address: Address::Indexed, update: false }), // stwcx.
-    Operation::Storage(StorageRow { what: MemWhat::Conditional { reversed: false }, len: 8, address: Address::Indexed, update: false }), // stdcx.
-    Operation::Storage(StorageRow { what: MemWhat::Conditional { reversed: false }, len: 1, address: Address::Indexed, update: false }), // stbcx.
-    Operation::Storage(StorageRow { what: MemWhat::Conditional { reversed: false }, len: 2, address: Address::Indexed, update: false }), // sthcx.
-    Operation::Storage(StorageRow { what: MemWhat::Load { signed: false, reversed: false, reserve: false }, len: 4, address: Address::Indexed, update: false }), // lwzcix
-    Operation::Storage(StorageRow { what: MemWhat::Load { signed: false, reversed: false, reserve: false }, len: 2, address: Address::Indexed, update: false }), // lhzcix
-    Operation::Storage(StorageRow { what: MemWhat::Load { signed: false, reversed: false, reserve: false }, len: 1, address: Address::Indexed, update: false }), // lbzcix
-    Operation::Storage(StorageRow { what: MemWhat::Load { signed: false, reversed: false, reserve: false }, len: 8, address: Address::Indexed, update: false }), // ldcix
-    Operation::Storage(StorageRow { what: MemWhat::Store { reversed: false }, len: 4, address: Address::Indexed, update: false }), // stwcix
-    Operation::Storage(StorageRow { what: MemWhat::Store { reversed: false }, len: 2, address: Address::Indexed, update: false }), // sthcix
-    Operation::Storage(StorageRow { what: MemWhat::Store { reversed: false }, len: 1, address: Address::Indexed, update: false }), // stbcix
-    Operation::Storage(StorageRow { what: MemWhat::Store { reversed: false }, len: 8, address: Address::Indexed, update: false }), // stdcix
-    Operation::Storage(StorageRow { what: MemWhat::Clean, len: 1, address: Address::Block, update: false }), // dcbst
-    Operation::Storage(StorageRow { what: MemWhat::Clean, len: 1, address: Address::Block, update: false }), // dcbf
+    Operation::Storage(StorageRow { what: MemWhat::Load { signed: false, reversed: false, reserve: false }, len: 4, address: Address::Displaced, update: false, privilege: Privilege::Never }), // lwz
+    Operation::Storage(StorageRow { what: MemWhat::Load { signed: false, reversed: false, reserve: false }, len: 4, address: Address::Displaced, update: true, privilege: Privilege::Never }), // lwzu
+    Operation::Storage(StorageRow { what: MemWhat::Load { signed: false, reversed: false, reserve: false }, len: 1, address: Address::Displaced, update: false, privilege: Privilege::Never }), // lbz
+    Operation::Storage(StorageRow { what: MemWhat::Load { signed: false, reversed: false, reserve: false }, len: 1, address: Address::Displaced, update: true, privilege: Privilege::Never }), // lbzu
+    Operation::Storage(StorageRow { what: MemWhat::Store { reversed: false }, len: 4, address: Address::Displaced, update: false, privilege: Privilege::Never }), // stw
+    Operation::Storage(StorageRow { what: MemWhat::Store { reversed: false }, len: 4, address: Address::Displaced, update: true, privilege: Privilege::Never }), // stwu
+    Operation::Storage(StorageRow { what: MemWhat::Store { reversed: false }, len: 1, address: Address::Displaced, update: false, privilege: Privilege::Never }), // stb
+    Operation::Storage(StorageRow { what: MemWhat::Store { reversed: false }, len: 1, address: Address::Displaced, update: true, privilege: Privilege::Never }), // stbu
+    Operation::Storage(StorageRow { what: MemWhat::Load { signed: false, reversed: false, reserve: false }, len: 2, address: Address::Displaced, update: false, privilege: Privilege::Never }), // lhz
+    Operation::Storage(StorageRow { what: MemWhat::Load { signed: false, reversed: false, reserve: false }, len: 2, address: Address::Displaced, update: true, privilege: Privilege::Never }), // lhzu
+    Operation::Storage(StorageRow { what: MemWhat::Load { signed: true, reversed: false, reserve: false }, len: 2, address: Address::Displaced, update: false, privilege: Privilege::Never }), // lha
+    Operation::Storage(StorageRow { what: MemWhat::Load { signed: true, reversed: false, reserve: false }, len: 2, address: Address::Displaced, update: true, privilege: Privilege::Never }), // lhau
+    Operation::Storage(StorageRow { what: MemWhat::Store { reversed: false }, len: 2, address: Address::Displaced, update: false, privilege: Privilege::Never }), // sth
+    Operation::Storage(StorageRow { what: MemWhat::Store { reversed: false }, len: 2, address: Address::Displaced, update: true, privilege: Privilege::Never }), // sthu
+    Operation::Storage(StorageRow { what: MemWhat::Load { signed: false, reversed: false, reserve: false }, len: 8, address: Address::Displaced, update: false, privilege: Privilege::Never }), // ld
+    Operation::Storage(StorageRow { what: MemWhat::Load { signed: false, reversed: false, reserve: false }, len: 8, address: Address::Displaced, update: true, privilege: Privilege::Never }), // ldu
+    Operation::Storage(StorageRow { what: MemWhat::Load { signed: true, reversed: false, reserve: false }, len: 4, address: Address::Displaced, update: false, privilege: Privilege::Never }), // lwa
+    Operation::Storage(StorageRow { what: MemWhat::Store { reversed: false }, len: 8, address: Address::Displaced, update: false, privilege: Privilege::Never }), // std
+    Operation::Storage(StorageRow { what: MemWhat::Store { reversed: false }, len: 8, address: Address::Displaced, update: true, privilege: Privilege::Never }), // stdu
+    Operation::Storage(StorageRow { what: MemWhat::Load { signed: false, reversed: false, reserve: false }, len: 8, address: Address::Indexed, update: false, privilege: Privilege::Never }), // ldx
+    Operation::Storage(StorageRow { what: MemWhat::Load { signed: false, reversed: false, reserve: false }, len: 4, address: Address::Indexed, update: false, privilege: Privilege::Never }), // lwzx
+    Operation::Storage(StorageRow { what: MemWhat::Load { signed: false, reversed: false, reserve: false }, len: 8, address: Address::Indexed, update: true, privilege: Privilege::Never }), // ldux
+    Operation::Storage(StorageRow { what: MemWhat::Load { signed: false, reversed: false, reserve: false }, len: 4, address: Address::Indexed, update: true, privilege: Privilege::Never }), // lwzux
+    Operation::Storage(StorageRow { what: MemWhat::Load { signed: false, reversed: false, reserve: false }, len: 1, address: Address::Indexed, update: false, privilege: Privilege::Never }), // lbzx
+    Operation::Storage(StorageRow { what: MemWhat::Load { signed: false, reversed: false, reserve: false }, len: 1, address: Address::Indexed, update: true, privilege: Privilege::Never }), // lbzux
+    Operation::Storage(StorageRow { what: MemWhat::Load { signed: false, reversed: false, reserve: false }, len: 2, address: Address::Indexed, update: false, privilege: Privilege::Never }), // lhzx
+    Operation::Storage(StorageRow { what: MemWhat::Load { signed: false, reversed: false, reserve: false }, len: 2, address: Address::Indexed, update: true, privilege: Privilege::Never }), // lhzux
+    Operation::Storage(StorageRow { what: MemWhat::Load { signed: true, reversed: false, reserve: false }, len: 4, address: Address::Indexed, update: false, privilege: Privilege::Never }), // lwax
+    Operation::Storage(StorageRow { what: MemWhat::Load { signed: true, reversed: false, reserve: false }, len: 2, address: Address::Indexed, update: false, privilege: Privilege::Never }), // lhax
+    Operation::Storage(StorageRow { what: MemWhat::Load { signed: true, reversed: false, reserve: false }, len: 4, address: Address::Indexed, update: true, privilege: Privilege::Never }), // lwaux
+    Operation::Storage(StorageRow { what: MemWhat::Load { signed: true, reversed: false, reserve: false }, len: 2, address: Address::Indexed, update: true, privilege: Privilege::Never }), // lhaux
+    Operation::Storage(StorageRow { what: MemWhat::Load { signed: false, reversed: true, reserve: false }, len: 8, address: Address::Indexed, update: false, privilege: Privilege::Never }), // ldbrx
+    Operation::Storage(StorageRow { what: MemWhat::Load { signed: false, reversed: true, reserve: false }, len: 4, address: Address::Indexed, update: false, privilege: Privilege::Never }), // lwbrx
+    Operation::Storage(StorageRow { what: MemWhat::Load { signed: false, reversed: true, reserve: false }, len: 2, address: Address::Indexed, update: false, privilege: Privilege::Never }), // lhbrx
+    Operation::Storage(StorageRow { what: MemWhat::Store { reversed: false }, len: 8, address: Address::Indexed, update: false, privilege: Privilege::Never }), // stdx
+    Operation::Storage(StorageRow { what: MemWhat::Store { reversed: false }, len: 4, address: Address::Indexed, update: false, privilege: Privilege::Never }), // stwx
+    Operation::Storage(StorageRow { what: MemWhat::Store { reversed: false }, len: 8, address: Address::Indexed, update: true, privilege: Privilege::Never }), // stdux
+    Operation::Storage(StorageRow { what: MemWhat::Store { reversed: false }, len: 4, address: Address::Indexed, update: true, privilege: Privilege::Never }), // stwux
+    Operation::Storage(StorageRow { what: MemWhat::Store { reversed: false }, len: 1, address: Address::Indexed, update: false, privilege: Privilege::Never }), // stbx
+    Operation::Storage(StorageRow { what: MemWhat::Store { reversed: false }, len: 1, address: Address::Indexed, update: true, privilege: Privilege::Never }), // stbux
+    Operation::Storage(StorageRow { what: MemWhat::Store { reversed: false }, len: 2, address: Address::Indexed, update: false, privilege: Privilege::Never }), // sthx
+    Operation::Storage(StorageRow { what: MemWhat::Store { reversed: false }, len: 2, address: Address::Indexed, update: true, privilege: Privilege::Never }), // sthux
+    Operation::Storage(StorageRow { what: MemWhat::Store { reversed: true }, len: 8, address: Address::Indexed, update: false, privilege: Privilege::Never }), // stdbrx
+    Operation::Storage(StorageRow { what: MemWhat::Store { reversed: true }, len: 4, address: Address::Indexed, update: false, privilege: Privilege::Never }), // stwbrx
+    Operation::Storage(StorageRow { what: MemWhat::Store { reversed: true }, len: 2, address: Address::Indexed, update: false, privilege: Privilege::Never }), // sthbrx
+    Operation::Storage(StorageRow { what: MemWhat::Load { signed: false, reversed: false, reserve: true }, len: 4, address: Address::Indexed, update: false, privilege: Privilege::Never }), // lwarx
+    Operation::Storage(StorageRow { what: MemWhat::Load { signed: false, reversed: false, reserve: true }, len: 1, address: Address::Indexed, update: false, privilege: Privilege::Never }), // lbarx
+    Operation::Storage(StorageRow { what: MemWhat::Load { signed: false, reversed: false, reserve: true }, len: 8, address: Address::Indexed, update: false, privilege: Privilege::Never }), // ldarx
+    Operation::Storage(StorageRow { what: MemWhat::Load { signed: false, reversed: false, reserve: true }, len: 2, address: Address::Indexed, update: false, privilege: Privilege::Never }), // lharx
+    Operation::Storage(StorageRow { what: MemWhat::Conditional { reversed: false }, len: 4, address: Address::Indexed, update: false, privilege: Privilege::Never }), // stwcx.
+    Operation::Storage(StorageRow { what: MemWhat::Conditional { reversed: false }, len: 8, address: Address::Indexed, update: false, privilege: Privilege::Never }), // stdcx.
+    Operation::Storage(StorageRow { what: MemWhat::Conditional { reversed: false }, len: 1, address: Address::Indexed, update: false, privilege: Privilege::Never }), // stbcx.
+    Operation::Storage(StorageRow { what: MemWhat::Conditional { reversed: false }, len: 2, address: Address::Indexed, update: false, privilege: Privilege::Never }), // sthcx.
+    Operation::Storage(StorageRow { what: MemWhat::Load { signed: false, reversed: false, reserve: false }, len: 4, address: Address::Indexed, update: false, privilege: Privilege::Always }), // lwzcix
+    Operation::Storage(StorageRow { what: MemWhat::Load { signed: false, reversed: false, reserve: false }, len: 2, address: Address::Indexed, update: false, privilege: Privilege::Always }), // lhzcix
+    Operation::Storage(StorageRow { what: MemWhat::Load { signed: false, reversed: false, reserve: false }, len: 1, address: Address::Indexed, update: false, privilege: Privilege::Always }), // lbzcix
+    Operation::Storage(StorageRow { what: MemWhat::Load { signed: false, reversed: false, reserve: false }, len: 8, address: Address::Indexed, update: false, privilege: Privilege::Always }), // ldcix
+    Operation::Storage(StorageRow { what: MemWhat::Store { reversed: false }, len: 4, address: Address::Indexed, update: false, privilege: Privilege::Always }), // stwcix
+    Operation::Storage(StorageRow { what: MemWhat::Store { reversed: false }, len: 2, address: Address::Indexed, update: false, privilege: Privilege::Always }), // sthcix
+    Operation::Storage(StorageRow { what: MemWhat::Store { reversed: false }, len: 1, address: Address::Indexed, update: false, privilege: Privilege::Always }), // stbcix
+    Operation::Storage(StorageRow { what: MemWhat::Store { reversed: false }, len: 8, address: Address::Indexed, update: false, privilege: Privilege::Always }), // stdcix
+    Operation::Storage(StorageRow { what: MemWhat::Clean, len: 1, address: Address::Block, update: false, privilege: Privilege::Never }), // dcbst
+    Operation::Storage(StorageRow { what: MemWhat::Clean, len: 1, address: Address::Block, update: false, privilege: Privilege::Never }), // dcbf
     Operation::Hint, // dcbtst
     Operation::Hint, // dcbt
-    Operation::Storage(StorageRow { what: MemWhat::Icbi, len: 1, address: Address::Block, update: false }), // icbi
-    Operation::Storage(StorageRow { what: MemWhat::Zero, len: 64, address: Address::Block, update: false }), // dcbz
-    Operation::Later, // sc
-    Operation::Later, // rfid
-    Operation::Later, // hrfid
-    Operation::Later, // isync
-    Operation::Later, // sync
-    Operation::Later, // eieio
-    Operation::Later, // tlbsync
-    Operation::Later, // mfmsr
-    Operation::Later, // mtmsr
-    Operation::Later, // mtmsrd
-    Operation::Later, // tlbie
-    Operation::Later, // tlbiel
-    Operation::Later, // mfspr
-    Operation::Later, // mtspr
-    Operation::Later, // mftb
-    Operation::Later, // darn
+    Operation::Storage(StorageRow { what: MemWhat::Icbi, len: 1, address: Address::Block, update: false, privilege: Privilege::Never }), // icbi
+    Operation::Storage(StorageRow { what: MemWhat::Zero, len: 64, address: Address::Block, update: false, privilege: Privilege::Never }), // dcbz
+    Operation::Call, // sc
+    Operation::Later(Privilege::Always), // rfid
+    Operation::Later(Privilege::Always), // hrfid
+    Operation::Later(Privilege::Never), // isync
+    Operation::Later(Privilege::Heavy), // sync
+    Operation::Later(Privilege::Never), // eieio
+    Operation::Later(Privilege::Always), // tlbsync
+    Operation::Later(Privilege::Always), // mfmsr
+    Operation::Later(Privilege::Always), // mtmsr
+    Operation::Later(Privilege::Always), // mtmsrd
+    Operation::Later(Privilege::Always), // tlbie
+    Operation::Later(Privilege::Always), // tlbiel
+    Operation::Later(Privilege::Never), // mfspr
+    Operation::Later(Privilege::Never), // mtspr
+    Operation::Later(Privilege::Never), // mftb
+    Operation::Later(Privilege::Never), // darn
     alu!(Paddi, Relative, NoCarry, Plain), // paddi
-    Operation::Storage(StorageRow { what: MemWhat::Load { signed: false, reversed: false, reserve: false }, len: 4, address: Address::Prefixed, update: false }), // plwz
-    Operation::Storage(StorageRow { what: MemWhat::Load { signed: false, reversed: false, reserve: false }, len: 1, address: Address::Prefixed, update: false }), // plbz
-    Operation::Storage(StorageRow { what: MemWhat::Store { reversed: false }, len: 4, address: Address::Prefixed, update: false }), // pstw
-    Operation::Storage(StorageRow { what: MemWhat::Store { reversed: false }, len: 1, address: Address::Prefixed, update: false }), // pstb
-    Operation::Storage(StorageRow { what: MemWhat::Load { signed: false, reversed: false, reserve: false }, len: 2, address: Address::Prefixed, update: false }), // plhz
-    Operation::Storage(StorageRow { what: MemWhat::Load { signed: true, reversed: false, reserve: false }, len: 2, address: Address::Prefixed, update: false }), // plha
-    Operation::Storage(StorageRow { what: MemWhat::Store { reversed: false }, len: 2, address: Address::Prefixed, update: false }), // psth
-    Operation::Storage(StorageRow { what: MemWhat::Load { signed: true, reversed: false, reserve: false }, len: 4, address: Address::Prefixed, update: false }), // plwa
-    Operation::Storage(StorageRow { what: MemWhat::Load { signed: false, reversed: false, reserve: false }, len: 8, address: Address::Prefixed, update: false }), // pld
-    Operation::Storage(StorageRow { what: MemWhat::Store { reversed: false }, len: 8, address: Address::Prefixed, update: false }), // pstd
+    Operation::Storage(StorageRow { what: MemWhat::Load { signed: false, reversed: false, reserve: false }, len: 4, address: Address::Prefixed, update: false, privilege: Privilege::Never }), // plwz
+    Operation::Storage(StorageRow { what: MemWhat::Load { signed: false, reversed: false, reserve: false }, len: 1, address: Address::Prefixed, update: false, privilege: Privilege::Never }), // plbz
+    Operation::Storage(StorageRow { what: MemWhat::Store { reversed: false }, len: 4, address: Address::Prefixed, update: false, privilege: Privilege::Never }), // pstw
+    Operation::Storage(StorageRow { what: MemWhat::Store { reversed: false }, len: 1, address: Address::Prefixed, update: false, privilege: Privilege::Never }), // pstb
+    Operation::Storage(StorageRow { what: MemWhat::Load { signed: false, reversed: false, reserve: false }, len: 2, address: Address::Prefixed, update: false, privilege: Privilege::Never }), // plhz
+    Operation::Storage(StorageRow { what: MemWhat::Load { signed: true, reversed: false, reserve: false }, len: 2, address: Address::Prefixed, update: false, privilege: Privilege::Never }), // plha
+    Operation::Storage(StorageRow { what: MemWhat::Store { reversed: false }, len: 2, address: Address::Prefixed, update: false, privilege: Privilege::Never }), // psth
+    Operation::Storage(StorageRow { what: MemWhat::Load { signed: true, reversed: false, reserve: false }, len: 4, address: Address::Prefixed, update: false, privilege: Privilege::Never }), // plwa
+    Operation::Storage(StorageRow { what: MemWhat::Load { signed: false, reversed: false, reserve: false }, len: 8, address: Address::Prefixed, update: false, privilege: Privilege::Never }), // pld
+    Operation::Storage(StorageRow { what: MemWhat::Store { reversed: false }, len: 8, address: Address::Prefixed, update: false, privilege: Privilege::Never }), // pstd
     Operation::Hint, // pnop
 ];
 

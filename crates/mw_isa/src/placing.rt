@@ -199,7 +199,8 @@ pub fn places_of(operation: Operation) -> Places
         Operation::Trap(row) => trap_places(row),
         Operation::Storage(row) => access_places(row.address, row.what),
         Operation::Hint => NONE,
-        Operation::Later => NONE,
+        Operation::Call => NONE,
+        Operation::Later(_) => NONE,
     }
 }
 

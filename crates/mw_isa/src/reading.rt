@@ -97,7 +97,7 @@ fn sources_at(insn: &Insn, places: Places) -> Sources
 }
 
 /// What a register is seen to hold, or 0 where none is read.
-fn held<V: SlotView>(view: &V, slot: Option<Slot>) -> u64
+pub fn held<V: SlotView>(view: &V, slot: Option<Slot>) -> u64
     ensures { result ≡ held (V.view view.now) slot }
 {
     match slot {

@@ -199,6 +199,7 @@ pub fn special_of(operation: Operation, insn: &Insn) -> Special
         Operation::Trap(_) => nothing(),
         Operation::Storage(_) => nothing(),
         Operation::Hint => nothing(),
-        Operation::Later => nothing(),
+        Operation::Call => nothing(),
+        Operation::Later(_) => nothing(),
     }
 }

@@ -162,7 +162,8 @@ fn operation_set(operation: Operation, insn: &Insn) -> SlotSet
             updated_of(insn, row, places),
         ),
         Operation::Hint => SlotSet::NONE,
-        Operation::Later => SlotSet::NONE,
+        Operation::Call => SlotSet::NONE,
+        Operation::Later(_) => SlotSet::NONE,
     }
 }
 

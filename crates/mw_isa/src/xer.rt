@@ -27,8 +27,8 @@ const OV32: u32 = 44;
 /// The place of CA32.
 const CA32: u32 = 45;
 
-/// Whether the bit at a place is 1.
-fn has_bit(word: u64, place: u32) -> bool
+/// Whether the bit at a place, counted from the left of 64, is 1. It can't fail.
+pub fn has_bit(word: u64, place: u32) -> bool
     requires { place ≤ 63 }
     ensures { result ≡ has_bit word place }
 {

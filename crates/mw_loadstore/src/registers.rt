@@ -1,5 +1,5 @@
 ghost use Rattle.std.specs.Prelude.{◌≡◌, ◌<◌, ◌^◌, Some, if◌then◌else◌, true};
-ghost use Rattle.mw_isa.specs.Storage.{IsSized, access_targets, block_of, finding, is_built_access, is_exclusive, is_reserved, regs_behind, reserve_behind, success_field, update_targets};
+ghost use Rattle.mw_isa.specs.Storage.{IsSized, access_targets, block_of, finding, is_exclusive, is_reserved, raises_alignment, regs_behind, reserve_behind, success_field, update_targets};
 ghost use Rattle.mw_isa.specs.Slots.{set_slot, set_targets};
 ghost use Rattle.mw_isa.specs.declared.slot.Slot.TheVariants.{CrField};
 
@@ -76,10 +76,11 @@ fn reserve_behind(what: MemWhat, at: &Stretches, before: Option<u32>) -> Option<
 
 /// What an access to these stretches makes of the registers: RT of a load, given the number that it loads,
 /// RA with update, CR field 0 of a store-conditional, given whether its block is reserved, and the
-/// reservation (Book I, fixed-point storage access; Book II, atomic update). It can't fail.
+/// reservation (Book I, fixed-point storage access; Book II, atomic update). The access raises no alignment
+/// interrupt. It can't fail.
 pub fn regs_behind(op: &MemOp, at: &Stretches, number: u64, reserved: bool, regs: &mut Regs)
     requires sized { IsSized op.now }
-    requires built { is_built_access op.now at.now ≡ true }
+    requires calm { raises_alignment op.now at.now ≡ false }
     ensures { regs.new ≡ regs_behind op.now.what op.now at.now (finding number reserved) regs.old }
 {
     let before = regs.reserve;

@@ -1,0 +1,73 @@
+-- The bits of the machine state register, and the causes of an interrupt that SRR1 tells, each by its place, counted from the
+-- left of 64 (Book III, machine state register, interrupt definitions). The bits of facilities that the machine doesn't
+-- have read 0.
+use Rattle.std.specs.Prelude.{ℕ, ◌+◌, ◌-◌, ◌^◌, if◌then◌else◌}
+use Rattle.mw_isa.specs.Xer.{has_bit}
+
+-- a number with the bit at a place alone
+abbrev pub bit_at : ℕ → ℕ
+bit_at place = 2 ^ (63 - place)
+
+-- a number whose bit at a place is 0
+abbrev pub without_bit : ℕ → ℕ → ℕ
+without_bit place number = if has_bit number place then number - bit_at place else number
+
+-- SF: addresses have 64 bits
+abbrev pub sf_place : ℕ
+sf_place = 0
+
+-- HV: hypervisor state
+abbrev pub hv_place : ℕ
+hv_place = 3
+
+-- EE: external and decrementer interrupts are taken
+abbrev pub ee_place : ℕ
+ee_place = 48
+
+-- PR: problem state
+abbrev pub pr_place : ℕ
+pr_place = 49
+
+-- ME: machine checks are taken
+abbrev pub me_place : ℕ
+me_place = 51
+
+-- IR: instruction addresses are translated
+abbrev pub ir_place : ℕ
+ir_place = 58
+
+-- DR: data addresses are translated
+abbrev pub dr_place : ℕ
+dr_place = 59
+
+-- RI: an interrupt can be recovered from
+abbrev pub ri_place : ℕ
+ri_place = 62
+
+-- LE: storage is little-endian
+abbrev pub le_place : ℕ
+le_place = 63
+
+-- the cause that tells that the instruction is prefixed
+abbrev pub prefixed_place : ℕ
+prefixed_place = 34
+
+-- that it would cross the end of a block of 64 bytes
+abbrev pub crossing_place : ℕ
+crossing_place = 35
+
+-- that it is illegal
+abbrev pub illegal_place : ℕ
+illegal_place = 44
+
+-- that it is privileged
+abbrev pub privileged_place : ℕ
+privileged_place = 45
+
+-- that its trap condition holds
+abbrev pub trap_place : ℕ
+trap_place = 46
+
+-- the bits of MSR that are 1 whatever happens
+abbrev pub fixed_msr : ℕ
+fixed_msr = bit_at sf_place + bit_at hv_place + bit_at me_place + bit_at le_place

@@ -1,0 +1,100 @@
+-- What raises an interrupt, part by part in the order of an instruction: its fetch, its words, what it comes to, and its
+-- access (Book III, interrupt definitions; which accesses have to be aligned is this board's own choice).
+use Rattle.std.specs.Prelude.{ℕ, Bool, if◌then◌else◌, List, [], Option, Some, None, Result, Ok, Err}
+use Rattle.mw_decode.specs.declared.insn.Facility.{Facility}
+use Rattle.mw_decode.specs.declared.insn.Facility.TheVariants.{Fp, Vector as VectorFacility, Vsx}
+use Rattle.mw_decode.specs.declared.insn.Decoded.{Decoded}
+use Rattle.mw_decode.specs.declared.insn.Decoded.TheVariants.{Insn as Is, Unavailable, Alignment as Misplaced, Illegal}
+use Rattle.mw_isa.specs.declared.access.Touch.{Touch}
+use Rattle.mw_isa.specs.declared.fetched.Fetched.{Fetched}
+use Rattle.mw_isa.specs.declared.memory.MemOp.{MemOp}
+use Rattle.mw_isa.specs.declared.outcome.Outcome.{Outcome}
+use Rattle.mw_isa.specs.declared.outcome.Outcome.TheVariants.{Done, Long, Memory, Trap}
+use Rattle.mw_isa.specs.declared.pages.PageFault.{PageFault}
+use Rattle.mw_isa.specs.declared.pages.StorageFault.{StorageFault}
+use Rattle.mw_isa.specs.declared.pages.Stretches.{Stretches}
+use Rattle.mw_isa.specs.declared.raised.Raised.{Raised}
+use Rattle.mw_isa.specs.declared.slot.Slot.{Slot}
+use Rattle.mw_isa.specs.declared.vector.Vector.{Vector}
+use Rattle.mw_isa.specs.declared.vector.Vector.TheVariants.{Alignment, Program, FpUnavailable, VectorUnavailable, VsxUnavailable}
+use Rattle.mw_isa.specs.Fetch.{is_cut}
+use Rattle.mw_isa.specs.Msr.{bit_at, crossing_place, illegal_place}
+use Rattle.mw_isa.specs.Pages.{touches_of}
+use Rattle.mw_isa.specs.Storage.{is_misplaced, is_unaligned_exclusive, pages_of}
+use Rattle.mw_isa.specs.Words.{alignment_address, decoded_of}
+
+-- an interrupt that leaves DAR and DSISR
+abbrev pub raising : Vector → ℕ → Raised
+raising vector cause = record { vector = vector; cause = cause; dar = None; dsisr = None }
+
+-- the alignment interrupt of an access at an effective address, which DAR gets
+abbrev pub misaligned : ℕ → Raised
+misaligned ea = record { vector = Alignment; cause = 0; dar = Some ea; dsisr = None }
+
+-- of two interrupts, each of which may be there, the first
+abbrev pub earlier : Option Raised → Option Raised → Option Raised
+earlier (Some raised) later = Some raised
+earlier None later = later
+
+-- the interrupt of a prefix that ends its block of 64 bytes; DAR stays
+abbrev pub cut_raised : Raised
+cut_raised = raising Alignment (bit_at crossing_place)
+
+-- the interrupt that the fetch raises. A fault of its page raises nothing yet
+abbrev pub fetch_raises : Result ℕ StorageFault → Option Fetched → Option Raised
+fetch_raises real None = None
+fetch_raises real (Some words) = if is_cut words then Some cut_raised else None
+
+-- the vector of a facility that isn't there
+abbrev pub unavailable : Facility → Vector
+unavailable Fp = FpUnavailable
+unavailable VectorFacility = VectorUnavailable
+unavailable Vsx = VsxUnavailable
+
+-- the interrupt that words raise by what they are, the registers being seen so
+abbrev pub decoded_raises : Decoded → (Slot → ℕ) → Option Raised
+decoded_raises (Is insn) view = None
+decoded_raises (Unavailable facility) view = Some (raising (unavailable facility) 0)
+decoded_raises (Misplaced ra rb disp) view = Some (misaligned (alignment_address ra rb disp view))
+decoded_raises Illegal view = Some (raising Program (bit_at illegal_place))
+
+-- the interrupt that the words raise
+abbrev pub words_raise : Fetched → (Slot → ℕ) → Option Raised
+words_raise words view = decoded_raises (decoded_of words) view
+
+-- the interrupt that the outcome raises by itself
+abbrev pub outcome_raises : Outcome → Option Raised
+outcome_raises (Done targets next) = None
+outcome_raises (Long op) = None
+outcome_raises (Memory op) = None
+outcome_raises (Trap vector cause) = Some (raising vector cause)
+
+-- where an access stands: its stretches, or the fault of a page
+abbrev pub Placed : Type 0
+Placed = Result Stretches PageFault
+
+-- how an access fares: the interrupt that it raises, if it does, and its accesses to pages, in order, that it came to
+pub record Fares : Type 0 where
+  pub trap : Option Raised
+  pub reached : List Touch
+
+-- an access raises an alignment interrupt at its address, or none
+abbrev pub misaligned_if : Bool → MemOp → Option Raised
+misaligned_if refused op = if refused then Some (misaligned op.ea) else None
+
+-- the interrupt of an access whose pages were translated: a fault of a page raises nothing yet; one that is misplaced in real storage
+abbrev pub place_raises : MemOp → Placed → Option Raised
+place_raises op (Err fault) = None
+place_raises op (Ok at) = misaligned_if (is_misplaced op at) op
+
+-- an access that wasn't translated, as an exclusive one isn't aligned
+abbrev pub untried : MemOp → Fares
+untried op = record { trap = Some (misaligned op.ea); reached = [] }
+
+-- one that was, all its pages being reached
+abbrev pub tried : MemOp → Placed → Fares
+tried op placed = record { trap = place_raises op placed; reached = touches_of (pages_of op) }
+
+-- how an access fares where it stands: first whether an exclusive one is aligned, then its pages, then where they are
+abbrev pub access_raises : MemOp → Placed → Fares
+access_raises op placed = if is_unaligned_exclusive op then untried op else tried op placed

@@ -1,0 +1,146 @@
+ghost use Rattle.std.specs.Prelude.{◌≡◌, ◌≤◌, IfSome};
+ghost use Rattle.mw_isa.specs.Raises.{access_raises, place_raises};
+ghost use Rattle.mw_isa.specs.Step.{OnTrap, end_raises, is_built_outcome};
+ghost use Rattle.mw_isa.specs.Storage.{IsSized, OnMemory, is_aligned, is_controller, is_exclusive, is_misplaced, is_unaligned_exclusive, needs_ram, reaches_controller};
+ghost use Rattle.mw_isa.specs.Take.{IsUnmarked};
+
+use crate::address::is_in_ram;
+use mw_isa::{
+    MemOp, MemWhat, Outcome, PageFault, Raised, Stretch, Stretches, misaligned, raising,
+};
+
+/// Whether the address of an access is a multiple of its length.
+fn is_aligned(op: &MemOp) -> bool
+    requires { 1 ≤ op.now.len }
+    ensures { result ≡ is_aligned op.now }
+{
+    op.ea % u64::from(op.len) == 0
+}
+
+/// Whether an access reserves its block, or stores where it is reserved.
+fn is_exclusive(what: MemWhat) -> bool
+    ensures { result ≡ is_exclusive what }
+{
+    match what {
+        MemWhat::Load { reserve, .. } => reserve,
+        MemWhat::Conditional { .. } => true,
+        MemWhat::Store { .. } => false,
+        MemWhat::Zero => false,
+        MemWhat::Clean => false,
+        MemWhat::Icbi => false,
+    }
+}
+
+/// Whether an access isn't allowed outside RAM.
+fn needs_ram(what: MemWhat) -> bool
+    ensures { result ≡ needs_ram what }
+{
+    match what {
+        MemWhat::Zero => true,
+        MemWhat::Load { reserve, .. } => reserve,
+        MemWhat::Conditional { .. } => true,
+        MemWhat::Store { .. } => false,
+        MemWhat::Clean => false,
+        MemWhat::Icbi => false,
+    }
+}
+
+/// Whether an access is an exclusive one that isn't aligned.
+fn is_unaligned_exclusive(op: &MemOp) -> bool
+    requires { 1 ≤ op.now.len }
+    ensures { result ≡ is_unaligned_exclusive op.now }
+{
+    is_exclusive(op.what) && !is_aligned(op)
+}
+
+/// Whether an access has a byte outside RAM, and isn't aligned or needs RAM.
+fn is_misplaced(op: &MemOp, at: &Stretches) -> bool
+    requires { 1 ≤ op.now.len }
+    ensures { result ≡ is_misplaced op.now at.now }
+{
+    !is_in_ram(at) && (!is_aligned(op) || needs_ram(op.what))
+}
+
+/// The interrupt of an access whose pages were translated: one that is misplaced raises an alignment
+/// interrupt; a fault of a page raises nothing yet.
+fn place_raises(op: &MemOp, placed: &Result<Stretches, PageFault>) -> Option<Raised>
+    requires { 1 ≤ op.now.len }
+    ensures { result ≡ place_raises op.now placed.now }
+{
+    match placed {
+        Err(_) => None,
+        Ok(at) => {
+            if is_misplaced(op, at) {
+                Some(misaligned(op.ea))
+            } else {
+                None
+            }
+        }
+    }
+}
+
+/// The interrupt that an access raises where it stands, if it does: an exclusive one that isn't aligned an
+/// alignment interrupt, before its pages are looked at, and then one that is misplaced (Book III, alignment
+/// interrupt; which accesses have to be aligned is this board's own choice). It can't fail.
+pub fn access_raises(op: &MemOp, placed: &Result<Stretches, PageFault>) -> Option<Raised>
+    requires { IsSized op.now }
+    ensures { result ≡ (access_raises op.now placed.now).trap }
+{
+    if is_unaligned_exclusive(op) {
+        Some(misaligned(op.ea))
+    } else {
+        place_raises(op, placed)
+    }
+}
+
+/// The interrupt that an outcome raises, if it does, by itself or by its access where it stands. It can't fail.
+pub fn end_raises(outcome: &Outcome, placed: &Option<Result<Stretches, PageFault>>) -> Option<Raised>
+    requires sized { OnMemory IsSized outcome.now }
+    requires cause { OnTrap IsUnmarked outcome.now }
+    ensures value { result ≡ end_raises outcome.now placed.now }
+    ensures cause { IfSome result (λ raised. IsUnmarked raised.cause) }
+{
+    match outcome {
+        Outcome::Done { .. } => None,
+        Outcome::Long(_) => None,
+        Outcome::Trap { vector, cause } => Some(raising(*vector, *cause)),
+        Outcome::Memory(op) => match placed {
+            None => None,
+            Some(placed) => access_raises(op, placed),
+        },
+    }
+}
+
+/// Whether a stretch has a byte in the interrupt controller.
+fn is_controller(stretch: &Stretch) -> bool
+    ensures { result ≡ is_controller stretch.now }
+{
+    stretch.at < 0xC000_6000 && 0xC000_4000 - u64::from(stretch.len) < stretch.at
+}
+
+/// Whether an access has a byte in the interrupt controller.
+fn reaches_controller(at: &Stretches) -> bool
+    ensures { result ≡ reaches_controller at.now }
+{
+    match at.second {
+        None => is_controller(&at.first),
+        Some(second) => is_controller(&at.first) || is_controller(&second),
+    }
+}
+
+/// Whether an outcome is built: its access, if it has one, stands in stretches of which no byte is one of the
+/// interrupt controller. It can't fail.
+pub fn is_built_outcome(outcome: &Outcome, placed: &Option<Result<Stretches, PageFault>>) -> bool
+    ensures { result ≡ is_built_outcome outcome.now placed.now }
+{
+    match outcome {
+        Outcome::Done { .. } => true,
+        Outcome::Long(_) => true,
+        Outcome::Trap { .. } => true,
+        Outcome::Memory(_) => match placed {
+            None => false,
+            Some(Err(_)) => false,
+            Some(Ok(at)) => !reaches_controller(at),
+        },
+    }
+}
