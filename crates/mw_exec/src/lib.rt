@@ -12,6 +12,7 @@ mod long;
 mod numbers;
 mod outcome;
 mod picking;
+mod privilege;
 mod storage;
 mod trapping;
 mod unit;

@@ -1,17 +1,16 @@
 ghost use Rattle.std.specs.Prelude.{◌≡◌, ◌≤◌, ◌<◌};
 ghost use Rattle.mw_tables.specs.Rows.{row_count};
 ghost use Rattle.mw_isa.specs.Condition.{is_trapping, to_bit, traps_equal, traps_signed, traps_unsigned};
-ghost use Rattle.mw_isa.specs.Execute.{trap_of, traps};
+ghost use Rattle.mw_isa.specs.Execute.{call, trap_of, traps};
 ghost use Rattle.mw_isa.specs.Places.{AreLimited, trap_roles};
+ghost use Rattle.mw_isa.specs.Step.{OnTrap};
+ghost use Rattle.mw_isa.specs.Take.{IsUnmarked};
 
 use crate::bits::{is_below, plain_part};
 use crate::inputs::b_of;
 use crate::outcome::{behind_insn, branch_to};
 use mw_decode::Insn;
-use mw_isa::{Operands, Operation, Outcome, TrapRow, Vector, code, places_of};
-
-/// The bit of SRR1 that tells a trap: 46, counted from the left of 64.
-const TRAP: u64 = 0x2_0000;
+use mw_isa::{Operands, Operation, Outcome, TRAP, TrapRow, Vector, bit_at, code, places_of};
 
 /// A bit of TO, counted from the left of five.
 fn to_bit(to: u8, number: u8) -> bool
@@ -68,14 +67,26 @@ fn traps(row: TrapRow, insn: &Insn, operands: &Operands) -> bool
 pub fn trap_of(row: TrapRow, insn: &Insn, operands: &Operands, cia: u64, outcome: &mut Outcome)
     requires row { insn.now.row < row_count }
     requires limits { AreLimited insn.now 0 (trap_roles row) }
-    ensures { outcome.new ≡ trap_of row insn.now operands.now cia }
+    ensures value { outcome.new ≡ trap_of row insn.now operands.now cia }
+    ensures cause { OnTrap IsUnmarked outcome.new }
 {
     if traps(row, insn, operands) {
         *outcome = Outcome::Trap {
             vector: Vector::Program,
-            cause: TRAP,
+            cause: bit_at(TRAP),
         };
     } else {
         branch_to(behind_insn(insn, cia), outcome);
     }
+}
+
+/// What a system call comes to (Book III, system call interrupt).
+pub fn call(outcome: &mut Outcome)
+    ensures value { outcome.new ≡ call }
+    ensures cause { OnTrap IsUnmarked outcome.new }
+{
+    *outcome = Outcome::Trap {
+        vector: Vector::SystemCall,
+        cause: 0,
+    };
 }

@@ -3,7 +3,8 @@ ghost use Rattle.mw_decode.specs.Decode.{IsInsn};
 ghost use Rattle.mw_isa.specs.Storage.{IsSized, OnMemory};
 ghost use Rattle.mw_isa.specs.Execute.{exec_of, is_built_row};
 ghost use Rattle.mw_isa.specs.Long.{IsStarted};
-ghost use Rattle.mw_isa.specs.Step.{OnLong};
+ghost use Rattle.mw_isa.specs.Step.{OnLong, OnTrap};
+ghost use Rattle.mw_isa.specs.Take.{IsUnmarked};
 
 use crate::arithmetic::arithmetic_of;
 use crate::branching::branch_of;
@@ -12,7 +13,7 @@ use crate::long::{product_by, quotient_by};
 use crate::outcome::{behind_insn, branch_to};
 use crate::picking::pick_of;
 use crate::storage::storage_of;
-use crate::trapping::trap_of;
+use crate::trapping::{call, trap_of};
 use arrayvec::ArrayVec;
 use mw_decode::Insn;
 use mw_isa::{Operands, Operation, Outcome, operation_at};
@@ -33,7 +34,8 @@ pub fn is_built_row(insn: &Insn) -> bool
         Operation::Trap(_) => true,
         Operation::Storage(_) => true,
         Operation::Hint => true,
-        Operation::Later => false,
+        Operation::Call => true,
+        Operation::Later(_) => false,
     }
 }
 
@@ -47,6 +49,7 @@ pub fn exec_into(insn: &Insn, operands: &Operands, cia: u64, outcome: &mut Outco
     ensures outcome { exec_of insn.now operands.now cia ≡ Some outcome.new }
     ensures sized { OnMemory IsSized outcome.new }
     ensures started { OnLong IsStarted outcome.new }
+    ensures cause { OnTrap IsUnmarked outcome.new }
 {
     match operation_at(insn.row) {
         Operation::Alu(row) => arithmetic_of(row, insn, operands, cia, outcome),
@@ -59,7 +62,8 @@ pub fn exec_into(insn: &Insn, operands: &Operands, cia: u64, outcome: &mut Outco
         Operation::Trap(row) => trap_of(row, insn, operands, cia, outcome),
         Operation::Storage(row) => storage_of(row, insn, operands, cia, outcome),
         Operation::Hint => branch_to(behind_insn(insn, cia), outcome),
-        Operation::Later => unreachable!(),
+        Operation::Call => call(outcome),
+        Operation::Later(_) => unreachable!(),
     }
 }
 
@@ -70,6 +74,7 @@ pub fn exec(insn: &Insn, operands: &Operands, cia: u64) -> Outcome
     ensures outcome { exec_of insn.now operands.now cia ≡ Some result }
     ensures sized { OnMemory IsSized result }
     ensures started { OnLong IsStarted result }
+    ensures cause { OnTrap IsUnmarked result }
 {
     let mut outcome = Outcome::Done {
         targets: ArrayVec::new(),

@@ -1,6 +1,6 @@
 //! Interrupts: what one makes of the registers when it is taken.
 #![tactic(auto)]
 
-mod take;
+mod taking;
 
-pub use take::take;
+pub use taking::take;

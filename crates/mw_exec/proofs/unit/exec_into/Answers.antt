@@ -1,6 +1,4 @@
-use Rattle.std.proofs.Common.{sym, subst}
 use Rattle.mw_decode.proofs.Ranges.{IsInsn-row}
-use Rattle.mw_isa.specs.Storage.{IsSized, OnMemory}
 use Rattle.mw_isa.proofs.StorageLaws.{storage-sized}
 use Rattle.mw_isa.proofs.RowLaws.{limited, registers}
 use Rattle.mw_isa.specs.declared.operation.Operation.TheVariants.{Alu, Product, Quotient, Branch, Field, Fields, Pick, Trap, Storage}
@@ -27,12 +25,11 @@ product_by-requires c = registers c.args.insn.now (Product c.in-Product.row) c.r
 pub quotient_by-requires : goal.quotient_by-requires
 quotient_by-requires c = registers c.args.insn.now (Quotient c.in-Quotient.row) c.requires.insn c.in-Quotient.ensures
 
-pub storage_of-requires : goal.storage_of-requires
-storage_of-requires c = registers c.args.insn.now (Storage c.in-Storage.row) c.requires.insn c.in-Storage.ensures
+pub storage_of-requires-clause-registers : goal.storage_of-requires-clause-registers
+storage_of-requires-clause-registers c = registers c.args.insn.now (Storage c.in-Storage.row) c.requires.insn c.in-Storage.ensures
 
-pub returns-in-Storage-clause-sized : goal.returns-in-Storage-clause-sized
-returns-in-Storage-clause-sized c =
-    subst (OnMemory IsSized) (sym c.storage_of.ensures) (storage-sized c.args.insn.now.row c.in-Storage.row c.in-Storage.ensures)
+pub storage_of-requires-clause-sized : goal.storage_of-requires-clause-sized
+storage_of-requires-clause-sized c = storage-sized c.args.insn.now.row c.in-Storage.row c.in-Storage.ensures
 
 pub branch_of-requires : goal.branch_of-requires
 branch_of-requires c = limited c.args.insn.now (Branch c.in-Branch.row) c.requires.insn c.in-Branch.ensures
