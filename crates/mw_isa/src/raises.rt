@@ -28,7 +28,8 @@ pub fn raising(vector: Vector, cause: u64) -> Raised
 /// The alignment interrupt of an access at the effective address `ea`, which DAR gets (Book III, alignment
 /// interrupt). It can't fail.
 pub fn misaligned(ea: u64) -> Raised
-    ensures { result ≡ misaligned ea }
+    ensures value { result ≡ misaligned ea }
+    ensures cause { IsUnmarked result.cause }
 {
     Raised {
         vector: Vector::Alignment,

@@ -65,7 +65,8 @@ fn is_misplaced(op: &MemOp, at: &Stretches) -> bool
 /// interrupt; a fault of a page raises nothing yet.
 fn place_raises(op: &MemOp, placed: &Result<Stretches, PageFault>) -> Option<Raised>
     requires { 1 ≤ op.now.len }
-    ensures { result ≡ place_raises op.now placed.now }
+    ensures value { result ≡ place_raises op.now placed.now }
+    ensures cause { IfSome result (λ raised. IsUnmarked raised.cause) }
 {
     match placed {
         Err(_) => None,
@@ -84,7 +85,8 @@ fn place_raises(op: &MemOp, placed: &Result<Stretches, PageFault>) -> Option<Rai
 /// interrupt; which accesses have to be aligned is this board's own choice). It can't fail.
 pub fn access_raises(op: &MemOp, placed: &Result<Stretches, PageFault>) -> Option<Raised>
     requires { IsSized op.now }
-    ensures { result ≡ (access_raises op.now placed.now).trap }
+    ensures value { result ≡ (access_raises op.now placed.now).trap }
+    ensures cause { IfSome result (λ raised. IsUnmarked raised.cause) }
 {
     if is_unaligned_exclusive(op) {
         Some(misaligned(op.ea))

@@ -1,4 +1,4 @@
-ghost use Rattle.std.specs.Prelude.{◌≡◌, ◌<◌, ◌^◌, Some, if◌then◌else◌, true};
+ghost use Rattle.std.specs.Prelude.{◌≡◌, ◌<◌, ◌^◌, Some, if◌then◌else◌, false, true};
 ghost use Rattle.mw_isa.specs.Storage.{IsSized, access_targets, block_of, finding, is_exclusive, is_reserved, raises_alignment, regs_behind, reserve_behind, success_field, update_targets};
 ghost use Rattle.mw_isa.specs.Slots.{set_slot, set_targets};
 ghost use Rattle.mw_isa.specs.declared.slot.Slot.TheVariants.{CrField};

@@ -1,5 +1,5 @@
 -- What the next instruction is, from what its parts gave.
-use Rattle.std.proofs.Common.{◌≡◌, Bool, true, false, ◌&&◌, Option, Some, None, refl, sym, ap, ap₂, ◌∙◌}
+use Rattle.std.proofs.Common.{◌≡◌, Bool, true, false, ◌&&◌, Option, Some, None, IfSome, option_map, refl, sym, ap, ap₂, ◌∙◌, subst}
 use Rattle.std.proofs.lemmas.Bool.{and_right}
 use Rattle.mw_decode.specs.declared.insn.Insn.{Insn}
 use Rattle.mw_decode.specs.declared.insn.Decoded.{Decoded}
@@ -8,34 +8,43 @@ use Rattle.mw_decode.specs.Decode.{IsInsn, is_insn}
 use Rattle.mw_isa.specs.declared.fetched.Fetched.{Fetched}
 use Rattle.mw_isa.specs.declared.outcome.Operands.{Operands}
 use Rattle.mw_isa.specs.declared.outcome.Outcome.{Outcome}
+use Rattle.mw_isa.specs.declared.pages.Stretches.{Stretches}
+use Rattle.mw_isa.specs.declared.memory.MemOp.{MemOp}
+use Rattle.mw_isa.specs.declared.raised.Raised.{Raised}
+use Rattle.mw_isa.specs.declared.slot.Slot.{Slot}
 use Rattle.mw_isa.specs.State.{State}
 use Rattle.mw_isa.specs.Fetch.{fetched, is_cut}
+use Rattle.mw_isa.specs.Raises.{Placed, cut_raised, decoded_raises, words_raise}
 use Rattle.mw_isa.specs.Reads.{operands_of}
+use Rattle.mw_isa.specs.Slots.{get_slot}
 use Rattle.mw_isa.specs.Long.{IsStarted}
 use Rattle.mw_isa.specs.Execute.{exec_of, is_built_row}
 use Rattle.mw_isa.specs.Storage.{IsSized, OnMemory, IsPlaced}
-use Rattle.mw_isa.specs.Step.{Placed, IsKnown, OnLong, OnPlaced, step, insn_in, insn_of, decoded_of, placed_of, builds, is_built_outcome, state_behind}
-use Rattle.mw_isa.proofs.StepLaws.{after-known, builds-known, builds-none, builds-not, insn_of-cut, insn_of-whole}
+use Rattle.mw_isa.specs.Step.{IsKnown, OnLong, OnPlaced, step, marked, end_raises, placed_of, builds, is_built_outcome, state_behind}
+use Rattle.mw_isa.specs.Take.{IsCause}
+use Rattle.mw_isa.specs.Words.{decoded_of, insn_in, insn_of}
+use Rattle.mw_isa.proofs.RaiseLaws.{end-calm}
+use Rattle.mw_isa.proofs.StepLaws.{after-known, builds-known, builds-none, builds-not, insn_of-cut, insn_of-whole, trap-known, trapped-fetch, trapped-words}
 use Rattle.mw_step.specs.declared.prepared.Prepared.{Prepared}
-use Rattle.mw_step.specs.Prepared.{IsPrepared, Prepares}
+use Rattle.mw_step.specs.Prepared.{ComesTo, IsPrepared, Prepares}
 
--- what was fetched and what it decoded to
-pub record Met (state : State) (words : Fetched) (what : Decoded) : Type 0 where
-  pub there : fetched state ≡ Some words
-  pub whole : is_cut words ≡ false
-  pub what_is : what ≡ decoded_of words
+-- an interrupt that is there is prepared
+trapped-is : (state : State) (prepared : Prepared) (raised : Raised) → fetched state ≡ Some prepared.words → builds state ≡ true → (step state).trap ≡ Some raised → prepared.raised ≡ Some raised → IfSome prepared.raised (λ (it : Raised). IsCause it.cause) → IsPrepared prepared state
+trapped-is state prepared raised there built trap is cause = record {
+  words = there;
+  built = built;
+  raised = trap ∙ sym is;
+  cause = cause;
+  comes = λ none.
+      let no : Some raised ≡ None = sym is ∙ none in
+      cc;
+}
 
--- that is the next instruction, if it is one
-met : (state : State) (words : Fetched) (what : Decoded) → Met state words what → insn_of words ≡ insn_in what
-met state words what m = insn_of-whole words what m.whole (sym m.what_is)
-
--- a prefix that is cut off isn't built
-pub unbuilt-cut : (state : State) (words : Fetched) → fetched state ≡ Some words → is_cut words ≡ true → builds state ≡ false
-unbuilt-cut state words there cut = builds-none words state there (insn_of-cut words cut)
-
--- nor are words that are no instruction
-unbuilt-words : (state : State) (words : Fetched) (what : Decoded) → Met state words what → insn_in what ≡ None → builds state ≡ false
-unbuilt-words state words what m none = builds-none words state m.there (met state words what m ∙ none)
+-- a prefix that is cut off raises the interrupt of one
+pub prepared-cut : (state : State) (prepared : Prepared) (cut marked_cut : Raised) → fetched state ≡ Some prepared.words → is_cut prepared.words ≡ true → cut ≡ cut_raised → marked_cut ≡ marked (Some prepared.words) cut → prepared.raised ≡ Some marked_cut → IfSome prepared.raised (λ (it : Raised). IsCause it.cause) → IsPrepared prepared state
+prepared-cut state prepared cut marked_cut there is_cut c m r cause =
+    trapped-is state prepared (marked (Some prepared.words) cut_raised) there (builds-none prepared.words state there (insn_of-cut prepared.words is_cut)) (trapped-fetch prepared.words state there is_cut)
+        (r ∙ ap Some (m ∙ ap (marked (Some prepared.words)) c)) cause
 
 -- what is no instruction by the test is none
 none-insn : (what : Decoded) → is_insn what ≡ false → insn_in what ≡ None
@@ -44,50 +53,90 @@ none-insn (Unavailable facility) e = refl
 none-insn (Alignment ra rb disp) e = refl
 none-insn Illegal e = refl
 
--- so words that are none aren't built
-pub unbuilt-none : (state : State) (words : Fetched) → fetched state ≡ Some words → is_cut words ≡ false → is_insn (decoded_of words) ≡ false → builds state ≡ false
-unbuilt-none state words there whole none = unbuilt-words state words (decoded_of words) (record { there = there; whole = whole; what_is = refl }) (none-insn (decoded_of words) none)
+-- and raises an interrupt
+some-raised : (what : Decoded) (view : Slot → ℕ) → is_insn what ≡ false → (raised : Raised) × (decoded_raises what view ≡ Some raised)
+some-raised (Is insn) view e = cc
+some-raised (Unavailable facility) view e = (_, refl)
+some-raised (Alignment ra rb disp) view e = (_, refl)
+some-raised Illegal view e = (_, refl)
 
--- nor is an instruction of a row or a form that isn't
-pub unbuilt-insn : (state : State) (words : Fetched) (insn : Insn) → Met state words (Is insn) → is_built_row insn ≡ false → builds state ≡ false
-unbuilt-insn state words insn m unbuilt = builds-not words insn state m.there (met state words (Is insn) m) unbuilt
+-- words that are none raise theirs
+pub prepared-words : (state : State) (prepared : Prepared) (raised : Option Raised) → fetched state ≡ Some prepared.words → is_cut prepared.words ≡ false → is_insn (decoded_of prepared.words) ≡ false → raised ≡ words_raise prepared.words (get_slot state.regs) → prepared.raised ≡ option_map (marked (Some prepared.words)) raised → IfSome prepared.raised (λ (it : Raised). IsCause it.cause) → IsPrepared prepared state
+prepared-words state prepared raised there whole none w r cause =
+    let some = some-raised (decoded_of prepared.words) (get_slot state.regs) none in
+    trapped-is state prepared (marked (Some prepared.words) some.0) there (builds-none prepared.words state there (insn_of-whole prepared.words (decoded_of prepared.words) whole refl ∙ none-insn (decoded_of prepared.words) none)) (trapped-words prepared.words some.0 state there whole some.1)
+        (r ∙ ap (option_map (marked (Some prepared.words))) (w ∙ some.1)) cause
 
--- what an instruction comes to, from the operands that were read
-known-is : (state : State) (words : Fetched) (insn : Insn) (operands : Operands) (outcome : Outcome) → Met state words (Is insn) → operands ≡ operands_of insn state.regs → exec_of insn operands state.regs.cia ≡ Some outcome → IsKnown words insn outcome state
-known-is state words insn operands outcome m o e = record {
-  words_are = m.there;
-  insn_is = met state words (Is insn) m;
-  outcome_is = ap (λ (v : Operands). exec_of insn v state.regs.cia) (sym o) ∙ e;
+-- what was found of an instruction, part by part
+pub record Looked (state : State) (prepared : Prepared) (operands : Operands) (raised : Option Raised) : Type 0 where
+  pub there : fetched state ≡ Some prepared.words
+  pub insn_is : insn_of prepared.words ≡ Some prepared.insn
+  pub row : is_built_row prepared.insn ≡ true
+  pub operands_are : operands ≡ operands_of prepared.insn state.regs
+  pub outcome : exec_of prepared.insn operands state.regs.cia ≡ Some prepared.outcome
+  pub placed : prepared.placed ≡ placed_of prepared.outcome
+  pub raises : raised ≡ end_raises prepared.outcome prepared.placed
+  pub marks : prepared.raised ≡ option_map (marked (Some prepared.words)) raised
+  pub cause : IfSome prepared.raised (λ it. IsCause it.cause)
+  pub is : IsInsn prepared.insn
+  pub started : OnLong IsStarted prepared.outcome
+  pub sized : OnMemory IsSized prepared.outcome
+  pub stands : OnPlaced IsPlaced prepared.outcome prepared.placed
+
+-- so it is known
+looked-known : (state : State) (prepared : Prepared) (operands : Operands) (raised : Option Raised) → Looked state prepared operands raised → IsKnown prepared.words prepared.insn prepared.outcome state
+looked-known state prepared operands raised l = record {
+  words_are = l.there;
+  insn_is = l.insn_is;
+  outcome_is = ap (λ (v : Operands). exec_of prepared.insn v state.regs.cia) (sym l.operands_are) ∙ l.outcome;
 }
 
--- whether it is built, from where its access stands
-built-by : (state : State) (words : Fetched) (insn : Insn) (operands : Operands) (outcome : Outcome) (placed : Option Placed) → Met state words (Is insn) → operands ≡ operands_of insn state.regs → exec_of insn operands state.regs.cia ≡ Some outcome → placed ≡ placed_of outcome state.regs.msr → builds state ≡ (is_built_row insn && is_built_outcome (Some outcome) placed)
-built-by state words insn operands outcome placed m o e p =
-    builds-known words insn outcome state (known-is state words insn operands outcome m o e)
-    ∙ ap (λ (v : Option Placed). is_built_row insn && is_built_outcome (Some outcome) v) (sym p)
+-- nothing marked was nothing
+none-marked : (words : Fetched) (raised : Option Raised) → option_map (marked (Some words)) raised ≡ None → raised ≡ None
+none-marked words None e = refl
+none-marked words (Some raised) e = cc
 
--- nor is one that isn't by what it comes to
-unbuilt-outcome : (state : State) (words : Fetched) (insn : Insn) (operands : Operands) (outcome : Outcome) (placed : Option Placed) → Met state words (Is insn) → operands ≡ operands_of insn state.regs → exec_of insn operands state.regs.cia ≡ Some outcome → placed ≡ placed_of outcome state.regs.msr → is_built_outcome (Some outcome) placed ≡ false → builds state ≡ false
-unbuilt-outcome state words insn operands outcome placed m o e p stopped = built-by state words insn operands outcome placed m o e p ∙ and_right (is_built_row insn) _ stopped
-
--- one that is built is prepared so
-prepared-is : (state : State) (prepared : Prepared) (operands : Operands) → Met state prepared.words (Is prepared.insn) → operands ≡ operands_of prepared.insn state.regs → exec_of prepared.insn operands state.regs.cia ≡ Some prepared.outcome → prepared.placed ≡ placed_of prepared.outcome state.regs.msr → is_built_row prepared.insn ≡ true → is_built_outcome (Some prepared.outcome) prepared.placed ≡ true → IsInsn prepared.insn → OnLong IsStarted prepared.outcome → OnMemory IsSized prepared.outcome → OnPlaced IsPlaced prepared.outcome prepared.placed → IsPrepared prepared state
-prepared-is state prepared operands m o e p built done is started sized stands = record {
-  known = known-is state prepared.words prepared.insn operands prepared.outcome m o e;
-  placed = p;
-  built = built-by state prepared.words prepared.insn operands prepared.outcome prepared.placed m o e p ∙ ap₂ (λ (a : Bool) (b : Bool). a && b) built done;
-  is = is;
-  can = record { started = started; sized = sized; stands = stands; built = done };
+looked-comes : (state : State) (prepared : Prepared) (operands : Operands) (raised : Option Raised) → Looked state prepared operands raised → prepared.raised ≡ None → ComesTo prepared state
+looked-comes state prepared operands raised l calm = record {
+  known = looked-known state prepared operands raised l;
+  placed = l.placed;
+  is = l.is;
+  can = record {
+      started = l.started;
+      sized = l.sized;
+      stands = l.stands;
+      calm = end-calm prepared.outcome prepared.placed (sym l.raises ∙ none-marked prepared.words raised (sym l.marks ∙ calm));
+  };
 }
 
--- what is told of the next instruction, by whether what it comes to is built
-pub prepares-by : (state : State) (prepared : Prepared) (operands : Operands) (done : Bool) → Met state prepared.words (Is prepared.insn) → operands ≡ operands_of prepared.insn state.regs → exec_of prepared.insn operands state.regs.cia ≡ Some prepared.outcome → prepared.placed ≡ placed_of prepared.outcome state.regs.msr → is_built_row prepared.insn ≡ true → done ≡ is_built_outcome (Some prepared.outcome) prepared.placed → IsInsn prepared.insn → OnLong IsStarted prepared.outcome → OnMemory IsSized prepared.outcome → OnPlaced IsPlaced prepared.outcome prepared.placed → Prepares prepared done state
-prepares-by state prepared operands true m o e p built done is started sized stands = prepared-is state prepared operands m o e p built (sym done) is started sized stands
-prepares-by state prepared operands false m o e p built done is started sized stands =
-    unbuilt-outcome state prepared.words prepared.insn operands prepared.outcome prepared.placed m o e p (sym done)
+-- whether it is built is told by what it comes to
+looked-built : (state : State) (prepared : Prepared) (operands : Operands) (raised : Option Raised) → Looked state prepared operands raised → builds state ≡ is_built_outcome prepared.outcome prepared.placed
+looked-built state prepared operands raised l =
+    builds-known prepared.words prepared.insn prepared.outcome state (looked-known state prepared operands raised l)
+    ∙ ap₂ (λ (row : Bool) (place : Option Placed). row && is_built_outcome prepared.outcome place) l.row (sym l.placed)
+
+-- and it raises what was found
+looked-trap : (state : State) (prepared : Prepared) (operands : Operands) (raised : Option Raised) → Looked state prepared operands raised → (step state).trap ≡ prepared.raised
+looked-trap state prepared operands raised l =
+    trap-known prepared.words prepared.insn prepared.outcome state (looked-known state prepared operands raised l)
+    ∙ ap (λ (place : Option Placed). option_map (marked (Some prepared.words)) (end_raises prepared.outcome place)) (sym l.placed)
+    ∙ ap (option_map (marked (Some prepared.words))) (sym l.raises)
+    ∙ sym l.marks
+
+-- what is told of an instruction that was looked at
+pub looked-prepares : (state : State) (prepared : Prepared) (operands : Operands) (raised : Option Raised) (done : Bool) → Looked state prepared operands raised → done ≡ is_built_outcome prepared.outcome prepared.placed → Prepares prepared done state
+looked-prepares state prepared operands raised true l e = record {
+  words = l.there;
+  built = looked-built state prepared operands raised l ∙ sym e;
+  raised = looked-trap state prepared operands raised l;
+  cause = l.cause;
+  comes = looked-comes state prepared operands raised l;
+}
+looked-prepares state prepared operands raised false l e = looked-built state prepared operands raised l ∙ sym e
 
 -- the step of what is prepared leaves what its outcome leaves
-pub prepared-after : (prepared : Prepared) (state : State) → IsPrepared prepared state → (step state).after ≡ state_behind (Some prepared.insn) (Some prepared.outcome) prepared.placed state.regs.cia state
-prepared-after prepared state p =
-    after-known prepared.words prepared.insn prepared.outcome state p.known
-    ∙ ap (λ (v : Option Placed). state_behind (Some prepared.insn) (Some prepared.outcome) v state.regs.cia state) (sym p.placed)
+pub prepared-after : (prepared : Prepared) (state : State) → IsPrepared prepared state → prepared.raised ≡ None → (step state).after ≡ state_behind (Some prepared.insn) (Some prepared.outcome) prepared.placed state.regs.cia state
+prepared-after prepared state p calm =
+    let to = p.comes calm in
+    after-known prepared.words prepared.insn prepared.outcome state to.known (p.raised ∙ calm)
+    ∙ ap (λ (v : Option Placed). state_behind (Some prepared.insn) (Some prepared.outcome) v state.regs.cia state) (sym to.placed)

@@ -13,7 +13,7 @@ use Rattle.mw_isa.specs.declared.memory.MemOp.{MemOp}
 use Rattle.mw_isa.specs.declared.pages.Stretch.{Stretch}
 use Rattle.mw_isa.specs.declared.pages.Stretches.{Stretches}
 use Rattle.mw_isa.specs.Pages.{size_of, is_ram, is_in_ram, bytes_by, bytes_in, laid_in}
-use Rattle.mw_isa.specs.Storage.{IsSized, IsPlaced, raises_alignment, reaches_controller, is_built_access, load_bytes}
+use Rattle.mw_isa.specs.Storage.{IsSized, IsPlaced, raises_alignment, load_bytes}
 use Rattle.mw_isa.proofs.PageLaws.{outside-single}
 use Rattle.mw_loadstore.specs.Pieces.{pieces_in}
 use Rattle.mw_loadstore.proofs.LaidLemmas.{pieces_in-laid}
@@ -44,9 +44,8 @@ load-there ram bytes op at devices sized read there =
     ∙ ap (λ (b : Bool). cond b (bytes_in ram at) (device_loaded devices at.first.at at.first.len)) there
 
 -- and where RAM isn't, they are a device's
-pub load-elsewhere : (ram bytes : List ℕ) (op : MemOp) (at : Stretches) (devices : DeviceData) → IsSized op → IsPlaced op at → is_built_access op at ≡ true → at.first.at % 8 + at.first.len ≤ 8 → bytes ≡ device_loaded devices at.first.at at.first.len ++ replicate (8 - at.first.len) 0 → false ≡ is_in_ram at → take op.len bytes ≡ load_bytes at ram devices
-load-elsewhere ram bytes op at devices sized p built fits loaded outside =
-    let calm = not-true (raises_alignment op at) (and_parts (not (raises_alignment op at)) (not (reaches_controller at)) built).0 in
+pub load-elsewhere : (ram bytes : List ℕ) (op : MemOp) (at : Stretches) (devices : DeviceData) → IsSized op → IsPlaced op at → raises_alignment op at ≡ false → at.first.at % 8 + at.first.len ≤ 8 → bytes ≡ device_loaded devices at.first.at at.first.len ++ replicate (8 - at.first.len) 0 → false ≡ is_in_ram at → take op.len bytes ≡ load_bytes at ram devices
+load-elsewhere ram bytes op at devices sized p calm fits loaded outside =
     let one = outside-single op at sized p calm (sym outside) in
     let long = length-device_loaded devices at.first.at at.first.len fits in
     ap₂ take (sym one.1 ∙ sym long) loaded

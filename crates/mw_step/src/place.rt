@@ -38,13 +38,12 @@ fn stretches_of(pages: &Pages) -> Result<Stretches, PageFault>
     }
 }
 
-/// Where the access of an outcome under MSR stands, if it has one, written over `placed`.
-pub fn placed_of(outcome: &Outcome, msr: u64, placed: &mut Option<Result<Stretches, PageFault>>)
+/// Where the access of an outcome stands, if it has one, written over `placed`.
+pub fn placed_of(outcome: &Outcome, placed: &mut Option<Result<Stretches, PageFault>>)
     requires { OnMemory IsSized outcome.now }
-    ensures value { placed.new ≡ placed_of outcome.now msr }
+    ensures value { placed.new ≡ placed_of outcome.now }
     ensures stands { OnPlaced IsPlaced outcome.now placed.new }
 {
-    let _ = msr;
     match outcome {
         Outcome::Done { .. } => *placed = None,
         Outcome::Long(_) => *placed = None,

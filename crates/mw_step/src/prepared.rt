@@ -3,7 +3,7 @@ ghost use Rattle.mw_step.specs.Prepared.{blank};
 
 use arrayvec::ArrayVec;
 use mw_decode::Insn;
-use mw_isa::{Fetched, Outcome, PageFault, Stretches};
+use mw_isa::{Fetched, Outcome, PageFault, Raised, Stretches};
 
 /// What is known of the next instruction before anything changes.
 #[derive(Drop)]
@@ -16,6 +16,8 @@ pub struct Prepared {
     pub outcome: Outcome,
     /// Where its access stands, if it has one: its stretches, or the fault of a page.
     pub placed: Option<Result<Stretches, PageFault>>,
+    /// The interrupt that it raises, if it does; it may then be no instruction and come to nothing.
+    pub raised: Option<Raised>,
 }
 
 impl Prepared {
@@ -34,6 +36,7 @@ impl Prepared {
                 next: 0,
             },
             placed: None,
+            raised: None,
         }
     }
 }

@@ -2,7 +2,7 @@ ghost use Rattle.std.specs.Prelude.{◌≡◌, ◌+◌, ◌^◌, ◌<◌, ◌≤
 ghost use Rattle.mw_bus.specs.Memory.{padded};
 ghost use Rattle.mw_isa.specs.Pages.{bytes_in, is_in_ram, laid_in, size_of};
 ghost use Rattle.mw_isa.specs.State.{seen};
-ghost use Rattle.mw_isa.specs.Storage.{IsPlaced, IsSized, accessed, devices_loaded, devices_stored, is_built_access, load_bytes, loaded_number, ram_behind};
+ghost use Rattle.mw_isa.specs.Storage.{IsPlaced, IsSized, accessed, devices_loaded, devices_stored, load_bytes, loaded_number, raises_alignment, ram_behind};
 
 use mw_bus::Ram;
 use mw_isa::{MemOp, MemWhat, State, Stretches};
@@ -55,7 +55,7 @@ fn load_bytes(op: &MemOp, at: &Stretches, ram: &Ram, devices: &mut Devices) -> [
     requires sized { IsSized op.now }
     requires few { op.now.len ≤ 8 }
     requires stands { IsPlaced op.now at.now }
-    requires built { is_built_access op.now at.now ≡ true }
+    requires calm { raises_alignment op.now at.now ≡ false }
     ensures bytes { take op.now.len result ≡ load_bytes at.now ram.now devices.old.devices }
     ensures after { devices.new ≡ record devices.old { devices = devices_loaded (MemWhat.Load true true true) at.now devices.old.devices } }
 {
@@ -70,7 +70,7 @@ fn load_bytes(op: &MemOp, at: &Stretches, ram: &Ram, devices: &mut Devices) -> [
 fn load(op: &MemOp, at: &Stretches, ram: &Ram, devices: &mut Devices) -> u64
     requires sized { IsSized op.now }
     requires stands { IsPlaced op.now at.now }
-    requires built { is_built_access op.now at.now ≡ true }
+    requires calm { raises_alignment op.now at.now ≡ false }
     ensures value { result ≡ loaded_number op.now.what op.now.len (load_bytes at.now ram.now devices.old.devices) }
     ensures after { devices.new ≡ record devices.old { devices = devices_loaded op.now.what at.now devices.old.devices } }
 {
@@ -102,7 +102,7 @@ fn lay(op: &MemOp, at: &Stretches, bytes: &[u8], ram: &mut Ram)
 fn store(op: &MemOp, at: &Stretches, reserved: bool, ram: &mut Ram, devices: &mut Devices)
     requires sized { IsSized op.now }
     requires stands { IsPlaced op.now at.now }
-    requires built { is_built_access op.now at.now ≡ true }
+    requires calm { raises_alignment op.now at.now ≡ false }
     ensures ram { ram.new ≡ ram_behind op.now.what op.now at.now reserved ram.old }
     ensures devices { devices.new ≡ record devices.old { devices = devices_stored op.now.what op.now at.now reserved devices.old.devices } }
 {
@@ -117,12 +117,12 @@ fn store(op: &MemOp, at: &Stretches, reserved: bool, ram: &mut Ram, devices: &mu
     }
 }
 
-/// Carries out an access to these stretches that is built.
+/// Carries out an access to these stretches that raises no interrupt.
 #[tactic(auto, unfolding(mw_isa::specs::Storage::accessed))]
 pub fn access(op: &MemOp, at: &Stretches, state: &mut State)
     requires sized { IsSized op.now }
     requires stands { IsPlaced op.now at.now }
-    requires built { is_built_access op.now at.now ≡ true }
+    requires calm { raises_alignment op.now at.now ≡ false }
     ensures value { seen state.new ≡ accessed op.now at.now (seen state.old) }
     ensures room { state.new.devices.room ≡ state.old.devices.room }
 {

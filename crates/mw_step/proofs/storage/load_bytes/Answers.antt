@@ -8,4 +8,4 @@ returns-then-is_in_ram-clause-bytes c =
 
 pub returns-else-is_in_ram-clause-bytes : goal.returns-else-is_in_ram-clause-bytes
 returns-else-is_in_ram-clause-bytes c =
-    load-elsewhere c.args.ram.now c.load.result c.args.op.now c.args.at.now c.args.devices.now.devices c.requires.sized c.requires.stands c.requires.built (search rules) c.load.ensures.value c.if-is_in_ram.ensures
+    load-elsewhere c.args.ram.now c.load.result c.args.op.now c.args.at.now c.args.devices.now.devices c.requires.sized c.requires.stands c.requires.calm (search rules) c.load.ensures.value c.if-is_in_ram.ensures
