@@ -1,15 +1,10 @@
 -- What the next instruction is, from what its parts gave.
-use Rattle.std.proofs.Common.{◌≡◌, Bool, true, false, ◌&&◌, Option, Some, None, IfSome, option_map, refl, sym, ap, ap₂, ◌∙◌, subst}
-use Rattle.std.proofs.lemmas.Bool.{and_right}
-use Rattle.mw_decode.specs.declared.insn.Insn.{Insn}
+use Rattle.std.proofs.Common.{◌≡◌, ℕ, Bool, true, false, ◌&&◌, Option, Some, None, IfSome, option_map, refl, sym, ap, ap₂, ◌∙◌}
 use Rattle.mw_decode.specs.declared.insn.Decoded.{Decoded}
 use Rattle.mw_decode.specs.declared.insn.Decoded.TheVariants.{Insn as Is, Unavailable, Alignment, Illegal}
 use Rattle.mw_decode.specs.Decode.{IsInsn, is_insn}
 use Rattle.mw_isa.specs.declared.fetched.Fetched.{Fetched}
 use Rattle.mw_isa.specs.declared.outcome.Operands.{Operands}
-use Rattle.mw_isa.specs.declared.outcome.Outcome.{Outcome}
-use Rattle.mw_isa.specs.declared.pages.Stretches.{Stretches}
-use Rattle.mw_isa.specs.declared.memory.MemOp.{MemOp}
 use Rattle.mw_isa.specs.declared.raised.Raised.{Raised}
 use Rattle.mw_isa.specs.declared.slot.Slot.{Slot}
 use Rattle.mw_isa.specs.State.{State}
@@ -24,7 +19,7 @@ use Rattle.mw_isa.specs.Step.{IsKnown, OnLong, OnPlaced, step, marked, end_raise
 use Rattle.mw_isa.specs.Take.{IsCause}
 use Rattle.mw_isa.specs.Words.{decoded_of, insn_in, insn_of}
 use Rattle.mw_isa.proofs.RaiseLaws.{end-calm}
-use Rattle.mw_isa.proofs.StepLaws.{after-known, builds-known, builds-none, builds-not, insn_of-cut, insn_of-whole, trap-known, trapped-fetch, trapped-words}
+use Rattle.mw_isa.proofs.StepLaws.{after-known, builds-known, builds-none, insn_of-cut, insn_of-whole, trap-known, trapped-fetch, trapped-words}
 use Rattle.mw_step.specs.declared.prepared.Prepared.{Prepared}
 use Rattle.mw_step.specs.Prepared.{ComesTo, IsPrepared, Prepares}
 
@@ -44,7 +39,7 @@ trapped-is state prepared raised there built trap is cause = record {
 pub prepared-cut : (state : State) (prepared : Prepared) (cut marked_cut : Raised) → fetched state ≡ Some prepared.words → is_cut prepared.words ≡ true → cut ≡ cut_raised → marked_cut ≡ marked (Some prepared.words) cut → prepared.raised ≡ Some marked_cut → IfSome prepared.raised (λ (it : Raised). IsCause it.cause) → IsPrepared prepared state
 prepared-cut state prepared cut marked_cut there is_cut c m r cause =
     trapped-is state prepared (marked (Some prepared.words) cut_raised) there (builds-none prepared.words state there (insn_of-cut prepared.words is_cut)) (trapped-fetch prepared.words state there is_cut)
-        (r ∙ ap Some (m ∙ ap (marked (Some prepared.words)) c)) cause
+    (r ∙ ap Some (m ∙ ap (marked (Some prepared.words)) c)) cause
 
 -- what is no instruction by the test is none
 none-insn : (what : Decoded) → is_insn what ≡ false → insn_in what ≡ None
@@ -65,7 +60,7 @@ pub prepared-words : (state : State) (prepared : Prepared) (raised : Option Rais
 prepared-words state prepared raised there whole none w r cause =
     let some = some-raised (decoded_of prepared.words) (get_slot state.regs) none in
     trapped-is state prepared (marked (Some prepared.words) some.0) there (builds-none prepared.words state there (insn_of-whole prepared.words (decoded_of prepared.words) whole refl ∙ none-insn (decoded_of prepared.words) none)) (trapped-words prepared.words some.0 state there whole some.1)
-        (r ∙ ap (option_map (marked (Some prepared.words))) (w ∙ some.1)) cause
+    (r ∙ ap (option_map (marked (Some prepared.words))) (w ∙ some.1)) cause
 
 -- what was found of an instruction, part by part
 pub record Looked (state : State) (prepared : Prepared) (operands : Operands) (raised : Option Raised) : Type 0 where
@@ -102,10 +97,10 @@ looked-comes state prepared operands raised l calm = record {
   placed = l.placed;
   is = l.is;
   can = record {
-      started = l.started;
-      sized = l.sized;
-      stands = l.stands;
-      calm = end-calm prepared.outcome prepared.placed (sym l.raises ∙ none-marked prepared.words raised (sym l.marks ∙ calm));
+    started = l.started;
+    sized = l.sized;
+    stands = l.stands;
+    calm = end-calm prepared.outcome prepared.placed (sym l.raises ∙ none-marked prepared.words raised (sym l.marks ∙ calm));
   };
 }
 

@@ -1,5 +1,5 @@
 -- What is known of the next instruction before anything changes, and the event of its being carried out.
-use Rattle.std.specs.Prelude.{◌≡◌, Bool, true, false, [], None}
+use Rattle.std.specs.Prelude.{◌≡◌, Bool, true, false, [], Option, Some, None, IfSome}
 use Rattle.mw_decode.specs.Blank.{no_insn}
 use Rattle.mw_decode.specs.Decode.{IsInsn}
 use Rattle.mw_isa.specs.declared.event.Event.{Event}

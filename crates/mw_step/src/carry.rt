@@ -10,9 +10,7 @@ use crate::prepared::Prepared;
 use crate::storage::access;
 use mw_exec::next_of;
 use mw_irq::take;
-use mw_isa::{
-    Event, Outcome, PageFault, Raised, Regs, State, Stretches, Vector, set_targets,
-};
+use mw_isa::{Event, Outcome, PageFault, Raised, Regs, State, Stretches, Vector, set_targets};
 
 /// Writes what an outcome writes, where its access stands.
 fn write(outcome: &mut Outcome, placed: &Option<Result<Stretches, PageFault>>, state: &mut State)

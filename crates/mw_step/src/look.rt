@@ -50,9 +50,17 @@ fn prepare_insn(state: &State, prepared: &mut Prepared) -> bool
         return false;
     }
     let found = operands(&prepared.insn, &state.regs, state.regs.msr);
-    exec_into(&prepared.insn, &found, state.regs.cia, &mut prepared.outcome);
+    exec_into(
+        &prepared.insn,
+        &found,
+        state.regs.cia,
+        &mut prepared.outcome,
+    );
     placed_of(&prepared.outcome, &mut prepared.placed);
-    prepared.raised = marked_if(&prepared.words, end_raises(&prepared.outcome, &prepared.placed));
+    prepared.raised = marked_if(
+        &prepared.words,
+        end_raises(&prepared.outcome, &prepared.placed),
+    );
     is_built_outcome(&prepared.outcome, &prepared.placed)
 }
 

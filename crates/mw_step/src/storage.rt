@@ -1,4 +1,4 @@
-ghost use Rattle.std.specs.Prelude.{◌≡◌, ◌+◌, ◌^◌, ◌<◌, ◌≤◌, IfSome, length, take, true};
+ghost use Rattle.std.specs.Prelude.{◌≡◌, ◌+◌, ◌^◌, ◌<◌, ◌≤◌, IfSome, length, take, false, true};
 ghost use Rattle.mw_bus.specs.Memory.{padded};
 ghost use Rattle.mw_isa.specs.Pages.{bytes_in, is_in_ram, laid_in, size_of};
 ghost use Rattle.mw_isa.specs.State.{seen};
