@@ -1,7 +1,7 @@
 use mw_alu::AluOp;
 use mw_isa::{
-    AluRow, BranchRow, Carry, Ending, Event, Events, FieldRow, Inputs, Operation, PickRow, Regs,
-    TrapRow, Vector, operation_at,
+    AluRow, BranchRow, Carry, Ending, Event, Events, FieldRow, Inputs, Operation, PickRow,
+    Privilege, Regs, TrapRow, Vector, operation_at,
 };
 use mw_tables::row_at;
 use std::test::Fail;
@@ -35,6 +35,8 @@ fn operations_go_by_the_table(rt: HostRuntime) {
         (114, "tw"),
         (116, "isel"),
         (196, "sc"),
+        (197, "rfid"),
+        (200, "sync"),
         (212, "paddi"),
         (223, "pnop"),
     ] {
@@ -54,7 +56,9 @@ fn operations_go_by_the_table(rt: HostRuntime) {
         (18, Operation::Branch(BranchRow::Bc)),
         (114, Operation::Trap(TrapRow::TrapRegister { long: false })),
         (116, Operation::Pick(PickRow::Select)),
-        (196, Operation::Later),
+        (196, Operation::Call),
+        (197, Operation::Later(Privilege::Always)),
+        (200, Operation::Later(Privilege::Heavy)),
         (212, alu(AluOp::Paddi, Inputs::Relative)),
         (223, Operation::Hint),
     ] {

@@ -58,25 +58,25 @@ struct Refused(&'static [u32], u64, RunFault);
 const AT_ONCE: RunFault = RunFault::Unbuilt { cycle: 0, cia: 0 };
 
 #[rattlefmt::skip]
-static REFUSED: [Refused; 16] = [
-    Refused(&[], 1, AT_ONCE),
-    Refused(&[0x3860_0005], 2, RunFault::Unbuilt { cycle: 1, cia: 4 }), // addi r3,0,5
-    Refused(&[0x4800_0008, 0, 0x7c7a_03a6], 9, RunFault::Unbuilt { cycle: 1, cia: 8 }), // b 8, mtspr 26,r3, a row that isn't built yet
+static REFUSED: [Refused; 18] = [
+    Refused(&[0x3860_0005, 0x7c00_04ac], 2, RunFault::Unbuilt { cycle: 1, cia: 4 }), // addi r3,0,5; sync 0
+    Refused(&[0x4800_0008, 0, 0x7c7a_03a6], 9, RunFault::Unbuilt { cycle: 1, cia: 8 }), // b 8, mtspr 26,r3
+    Refused(&[0x0600_0000, 0x9060_0041, 0x4c00_0024], 3, RunFault::Unbuilt { cycle: 1, cia: 8 }), // pstw; rfid
+    Refused(&[0x4c00_0024], 1, AT_ONCE), // rfid
+    Refused(&[0x4c00_0224], 1, AT_ONCE), // hrfid
+    Refused(&[0x4c00_012c], 1, AT_ONCE), // isync
     Refused(&[0x7c00_04ac], 1, AT_ONCE), // sync 0
+    Refused(&[0x7c40_04ac], 1, AT_ONCE), // sync 2
+    Refused(&[0x7c00_06ac], 1, AT_ONCE), // eieio
+    Refused(&[0x7c00_046c], 1, AT_ONCE), // tlbsync
     Refused(&[0x7c60_00a6], 1, AT_ONCE), // mfmsr r3
-    Refused(&[0x7fe0_0008], 1, AT_ONCE), // tw 31,r0,r0, whose condition holds
-    Refused(&[0x4c00_0420], 1, AT_ONCE), // bcctr 0,0,0, for which CTR would fall
-    Refused(&[0x4400_0002], 1, AT_ONCE), // sc
-    Refused(&[0xc820_0000], 1, AT_ONCE), // lfd f1,0(0), of a facility that isn't there
-    Refused(&[0xb860_0000], 1, AT_ONCE), // lmw r3,0(0), which raises alignment
-    Refused(&[0x0613_ffff, 0x3864_fffc], 1, AT_ONCE), // paddi r3,r4,-4,1, relative with a base
-    Refused(&[0x0700_0001, 0], 1, AT_ONCE), // a prefix that is none
-    Refused(&[0x0400_0000, 0x3860_0005], 1, AT_ONCE), // addi behind a prefix of type 0
-    Refused(&[0x4800_003c, 0, 0, 0, 0, 0, 0, 0, 0, 0, 0, 0, 0, 0, 0, 0x0600_0000, 0x3860_0005], 9,
-        RunFault::Unbuilt { cycle: 1, cia: 60 }), // b 60, and paddi r3,0,5 across two blocks
-    Refused(&[0x4800_003c, 0, 0, 0, 0, 0, 0, 0, 0, 0, 0, 0, 0, 0, 0, 0x0500_0000, 0x3860_0005], 9,
-        RunFault::Unbuilt { cycle: 1, cia: 60 }), // b 60, and a prefix that is none across two blocks
-    Refused(&[0x0600_0000, 0x9060_0041, 0x0600_0001, 0x9060_0000], 3, RunFault::Unbuilt { cycle: 2, cia: 16 }), // pstw twice
+    Refused(&[0x7c60_0124], 1, AT_ONCE), // mtmsr r3,0
+    Refused(&[0x7c60_0164], 1, AT_ONCE), // mtmsrd r3,0
+    Refused(&[0x7c00_1a64], 1, AT_ONCE), // tlbie r3,r0,0,0,0
+    Refused(&[0x7c00_1a24], 1, AT_ONCE), // tlbiel r3,r0,0,0,0
+    Refused(&[0x7c68_02a6], 1, AT_ONCE), // mfspr r3,8
+    Refused(&[0x7c6c_42e6], 1, AT_ONCE), // mftb r3,268
+    Refused(&[0x7c60_05e6], 1, AT_ONCE), // darn r3,0
 ];
 
 #[test]

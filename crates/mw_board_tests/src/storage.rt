@@ -1,6 +1,7 @@
 ghost use Rattle.std.specs.Prelude.{◌<◌, ◌^◌};
 
-use mw_board::{Run, RunFault, simulate};
+use mw_board::{Run, simulate};
+use mw_isa::{Event, Vector};
 use mw_uart::Script;
 use std::alloc::{AllocError as NoMemory, Global};
 use std::test::Fail;
@@ -203,60 +204,85 @@ fn programs_of_accesses(rt: HostRuntime) -> Result<(), Fail> {
     Ok(())
 }
 
+/// What an access comes to.
+#[derive(Clone, Copy, Debug, PartialEq, Eq)]
+enum Fate {
+    /// It retires.
+    Retires,
+    /// It raises an alignment interrupt.
+    Traps,
+    /// It isn't built.
+    Unbuilt,
+}
+
 /// The words of an image: the first ones make an address, and the last one accesses it.
-struct Access(&'static [u32], bool);
+struct Access(&'static [u32], Fate);
 
 #[rattlefmt::skip]
-static ACCESSES: [Access; 21] = [
+static ACCESSES: [Access; 22] = [
     // addi r3,0,258: lwarx r6,0,r3, and stwcx. r6,0,r3; lwz r6,0(r3)
-    Access(&[0x3860_0102, 0x7cc0_1828], false),
-    Access(&[0x3860_0102, 0x7cc0_192d], false),
-    Access(&[0x3860_0102, 0x80c3_0000], true),
+    Access(&[0x3860_0102, 0x7cc0_1828], Fate::Traps),
+    Access(&[0x3860_0102, 0x7cc0_192d], Fate::Traps),
+    Access(&[0x3860_0102, 0x80c3_0000], Fate::Retires),
     // addis r3,0,256, the end of RAM: lwz at -2 and at 0, ld at -4 and at -8
-    Access(&[0x3c60_0100, 0x80c3_fffe], false),
-    Access(&[0x3c60_0100, 0x80c3_0000], true),
-    Access(&[0x3c60_0100, 0xe8c3_fffc], false),
-    Access(&[0x3c60_0100, 0xe8c3_fff8], true),
+    Access(&[0x3c60_0100, 0x80c3_fffe], Fate::Traps),
+    Access(&[0x3c60_0100, 0x80c3_0000], Fate::Retires),
+    Access(&[0x3c60_0100, 0xe8c3_fffc], Fate::Traps),
+    Access(&[0x3c60_0100, 0xe8c3_fff8], Fate::Retires),
     // behind it lwarx r6,0,r3, dcbz 0,r3, dcbst 0,r3
-    Access(&[0x3c60_0100, 0x7cc0_1828], false),
-    Access(&[0x3c60_0100, 0x7c00_1fec], false),
-    Access(&[0x3c60_0100, 0x7c00_186c], true),
+    Access(&[0x3c60_0100, 0x7cc0_1828], Fate::Traps),
+    Access(&[0x3c60_0100, 0x7c00_1fec], Fate::Traps),
+    Access(&[0x3c60_0100, 0x7c00_186c], Fate::Retires),
     // ld r3,264(0), real byte c0004000: icbi 0,r3, and dcbt 0,r3
-    Access(&[0xe860_0108, 0x7c00_1fac], false),
-    Access(&[0xe860_0108, 0x7c00_1a2c], true),
+    Access(&[0xe860_0108, 0x7c00_1fac], Fate::Unbuilt),
+    Access(&[0xe860_0108, 0x7c00_1a2c], Fate::Retires),
     // lwz at 0, stw at 0, lwz at 4096 and at 8188, all in it; ld at -8
-    Access(&[0xe860_0108, 0x80c3_0000], false),
-    Access(&[0xe860_0108, 0x90c3_0000], false),
-    Access(&[0xe860_0108, 0x80c3_1000], false),
-    Access(&[0xe860_0108, 0x80c3_1ffc], false),
-    Access(&[0xe860_0108, 0xe8c3_fff8], true),
+    Access(&[0xe860_0108, 0x80c3_0000], Fate::Unbuilt),
+    Access(&[0xe860_0108, 0x90c3_0000], Fate::Unbuilt),
+    Access(&[0xe860_0108, 0x80c3_1000], Fate::Unbuilt),
+    Access(&[0xe860_0108, 0x80c3_1ffc], Fate::Unbuilt),
+    Access(&[0xe860_0108, 0xe8c3_fff8], Fate::Retires),
     // lwz at -4, at -1, which isn't aligned, and at 8192, just outside
-    Access(&[0xe860_0108, 0x80c3_fffc], true),
-    Access(&[0xe860_0108, 0x80c3_ffff], false),
-    Access(&[0xe860_0108, 0x80c3_2000], true),
+    Access(&[0xe860_0108, 0x80c3_fffc], Fate::Retires),
+    Access(&[0xe860_0108, 0x80c3_ffff], Fate::Unbuilt),
+    Access(&[0xe860_0108, 0x80c3_2000], Fate::Retires),
+    // lwarx r6,0,r3 at c0004000
+    Access(&[0xe860_0108, 0x7cc0_1828], Fate::Unbuilt),
     // addis r3,0,-16384; ori r3,r3,16384; icbi 0,r3: real byte fffffffc0004000, far above
-    Access(&[0x3c60_c000, 0x6063_4000, 0x7c00_1fac], true),
+    Access(&[0x3c60_c000, 0x6063_4000, 0x7c00_1fac], Fate::Retires),
 ];
+
+/// What the last of `n` instructions comes to.
+fn fate_of(alloc: Global, image: &[u8], n: u64) -> Fate {
+    if n > 9 {
+        return Fate::Unbuilt;
+    }
+    match simulate(alloc, image, &Script::new(alloc), n) {
+        Ok(run) => match run.events.as_slice().last() {
+            Some(
+                Event::Trap {
+                    vector: Vector::Alignment,
+                    ..
+                },
+            ) => Fate::Traps,
+            _ => Fate::Retires,
+        },
+        Err(_) => Fate::Unbuilt,
+    }
+}
 
 #[test]
 fn accesses_that_are_built(rt: HostRuntime) -> Result<(), Fail> {
     let alloc = rt.alloc();
-    for Access(words, built) in &ACCESSES {
+    for Access(words, fate) in &ACCESSES {
         let image = image_of(alloc, *words)?;
         let n = words.len() as u64;
-        assert!(rt; 1 <= n && n <= 3);
-        match simulate(alloc, image.as_slice(), &Script::new(alloc), n) {
-            Ok(_) => assert!(rt; *built, "{words:?} runs"),
-            Err(fault) => {
-                let at = n - 1;
-                let want = RunFault::Unbuilt {
-                    cycle: at,
-                    cia: 4 * at,
-                };
-                assert_eq!(rt; [!*built, true], [true, true], "{words:?}");
-                assert_eq!(rt; fault, want, "{words:?}");
-            }
-        }
+        assert_eq!(rt; fate_of(alloc, image.as_slice(), n), *fate, "{words:?}");
+        assert_eq!(rt;
+            fate_of(alloc, image.as_slice(), n.saturating_sub(1)),
+            Fate::Retires,
+            "{words:?}"
+        );
     }
     Ok(())
 }

@@ -1,10 +1,10 @@
-use crate::shared::{LOOP, SINGLE, words_of};
+use crate::shared::{LOOP, SYNC, words_of};
 use mw_cli::{Status, mw_main};
 use mw_io::{MemHost, RealHost, SureSink};
 use std::test::Fail;
 
-/// Three bytes of it: the word 00600005, which isn't built.
-const CUT: &[u8] = b"\x05\x00\x60";
+/// `rfid`, which isn't built.
+const RETURN: &[u8] = b"\x24\x00\x00\x4c";
 
 /// Words, the image that they name, and what is answered and said.
 struct Refused(&'static str, &'static [u8], Status, &'static str);
@@ -39,9 +39,9 @@ static REFUSED: [Refused; 31] = [
     Refused("asm absent", b"", Status::ReadFault, "mw: cannot read absent\n"),
     Refused("dis absent", LOOP, Status::ReadFault, "mw: cannot read absent\n"),
     Refused("asm img", b"frob r3\n", Status::BadInput, "mw: img:1:1: bad input\n"),
-    Refused("run img --cycles 5", CUT, Status::Unbuilt, "mw: unbuilt at 0000000000000000\n"),
-    Refused("run img --cycles 2", SINGLE, Status::Unbuilt, "mw: unbuilt at 0000000000000004\n"),
-    Refused("run img --cycles 1", b"", Status::Unbuilt, "mw: unbuilt at 0000000000000000\n"),
+    Refused("run img --cycles 5", RETURN, Status::Unbuilt, "mw: unbuilt at 0000000000000000\n"),
+    Refused("run img --cycles 2", SYNC, Status::Unbuilt, "mw: unbuilt at 0000000000000004\n"),
+    Refused("run img --cycles 1", RETURN, Status::Unbuilt, "mw: unbuilt at 0000000000000000\n"),
 ];
 
 #[test]

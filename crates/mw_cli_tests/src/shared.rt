@@ -3,8 +3,8 @@ use std::alloc::{AllocError, Global};
 /// `addi r3,0,5` at 0, and `b .` at 4, little-endian.
 pub const LOOP: &[u8] = b"\x05\x00\x60\x38\x00\x00\x00\x48";
 
-/// The first instruction alone: behind it stands the word 0, which isn't built.
-pub const SINGLE: &[u8] = b"\x05\x00\x60\x38";
+/// The first instruction, and behind it `sync 0`, which isn't built.
+pub const SYNC: &[u8] = b"\x05\x00\x60\x38\xac\x04\x00\x7c";
 
 /// paddi r3,0,-8589934592,1 and behind it `b .`: a prefix and its suffix, and a word.
 pub const PREFIXED: &[u8] = b"\x00\x00\x12\x06\x00\x00\x60\x38\x00\x00\x00\x48";

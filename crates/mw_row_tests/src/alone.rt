@@ -1,5 +1,5 @@
 use mw_bus::Ram;
-use mw_isa::{Regs, State};
+use mw_isa::{Event, Regs, State};
 use mw_soc::Devices;
 use mw_step::{Prepared, carry_out, prepare};
 use mw_uart::Script;
@@ -30,10 +30,12 @@ pub fn lay(state: &mut State, word: u32, suffix: u32, cia: u32) {
 /// Carries out the next instruction; whether it retired.
 pub fn retires(state: &mut State) -> bool {
     let mut prepared = Prepared::new();
-    if prepare(state, &mut prepared) {
-        carry_out(state, &mut prepared);
-        true
-    } else {
-        false
+    if !prepare(state, &mut prepared) {
+        return false;
+    }
+    match carry_out(state, &mut prepared) {
+        Event::Retire { .. } => true,
+        Event::Trap { .. } => false,
+        Event::Irq { .. } => false,
     }
 }

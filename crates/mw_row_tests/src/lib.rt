@@ -10,8 +10,9 @@ mod compares;
 #[cfg(test)]
 mod conditions;
 #[cfg(test)]
-mod logic;
+mod interrupts;
 #[cfg(test)]
+mod logic;
 #[cfg(test)]
 mod programs;
 #[cfg(test)]

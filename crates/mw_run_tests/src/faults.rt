@@ -1,4 +1,4 @@
-use crate::shared::{LOOP, text_of_loop, words_of};
+use crate::shared::{Cycles, LOOP, is_text, text_of_loop, words_of};
 use mw_cli::{Status, mw_main};
 use mw_io::{MemHost, MemSink};
 use std::test::Fail;
@@ -43,7 +43,7 @@ fn each_call_fails_in_turn(rt: HostRuntime) -> Result<(), Fail> {
         assert_eq!(rt; status, want, "{of_host} {of_out} {of_err}");
         if want == Status::Done {
             assert!(rt;
-                out.as_slice() == text.as_bytes(),
+                is_text(out.as_slice(), text.as_bytes(), Cycles::Count),
                 "{of_host} {of_out} {of_err}"
             );
         } else {

@@ -12,4 +12,6 @@ mod scripts;
 #[cfg(test)]
 mod shared;
 #[cfg(test)]
+mod traps;
+#[cfg(test)]
 mod worked;

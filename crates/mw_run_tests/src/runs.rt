@@ -1,4 +1,4 @@
-use crate::shared::{LOOP, PREFIXED, SINGLE, push_state, text_of_loop, words_of};
+use crate::shared::{Cycles, LOOP, PREFIXED, SINGLE, is_text, push_state, text_of_loop, words_of};
 use mw_board::simulate;
 use mw_cli::{Status, mw_main};
 use mw_io::{SureHost, SureSink};
@@ -23,7 +23,7 @@ fn a_suffix_is_printed_behind_its_prefix(rt: HostRuntime) -> Result<(), Fail> {
     }
     let r3 = [(3, "fffffffe00000000")];
     push_state(&mut text, 20000, &r3, "0000000000000008", "7fffb1df", "-")?;
-    assert!(rt; out.as_slice() == text.as_bytes());
+    assert!(rt; is_text(out.as_slice(), text.as_bytes(), Cycles::Count));
     Ok(())
 }
 
@@ -50,7 +50,10 @@ fn a_run_is_printed_whole(rt: HostRuntime) -> Result<(), Fail> {
         let status = mw_main(alloc, words.as_slice(), &mut host, &mut out, &mut err);
         assert_eq!(rt; status, Status::Done, "{cycles}");
         let text = text_of_loop(alloc, cycles, r3, cia, dec)?;
-        assert!(rt; out.as_slice() == text.as_bytes(), "{cycles}");
+        assert!(rt;
+            is_text(out.as_slice(), text.as_bytes(), Cycles::Count),
+            "{cycles}"
+        );
         assert_eq!(rt; err.as_slice(), b"".as_slice(), "{cycles}");
     }
     Ok(())
@@ -116,7 +119,7 @@ fn a_store_is_dumped(rt: HostRuntime) -> Result<(), Fail> {
     let status = mw_main(alloc, words.as_slice(), &mut host, &mut out, &mut err);
     assert_eq!(rt; status, Status::Done);
     let text = text_of_storing(alloc)?;
-    assert!(rt; out.as_slice() == text.as_bytes());
+    assert!(rt; is_text(out.as_slice(), text.as_bytes(), Cycles::Count));
     assert_eq!(rt; err.as_slice(), b"".as_slice());
     Ok(())
 }
@@ -165,7 +168,10 @@ fn a_byte_is_sent(rt: HostRuntime) -> Result<(), Fail> {
         let status = mw_main(alloc, words.as_slice(), &mut host, &mut out, &mut err);
         assert_eq!(rt; status, Status::Done, "{cycles}");
         let text = text_of_sending(alloc, cycles, dec, uart)?;
-        assert!(rt; out.as_slice() == text.as_bytes(), "{cycles}");
+        assert!(rt;
+            is_text(out.as_slice(), text.as_bytes(), Cycles::Count),
+            "{cycles}"
+        );
         assert_eq!(rt; err.as_slice(), b"".as_slice(), "{cycles}");
     }
     Ok(())

@@ -1,4 +1,4 @@
-use crate::shared::{push_state, words_of};
+use crate::shared::{Cycles, is_text, push_state, words_of};
 use mw_cli::{Status, mw_main};
 use mw_io::{SureHost, SureSink};
 use std::alloc::{AllocError, Global};
@@ -85,7 +85,10 @@ fn bytes_arrive_at_a_run(rt: HostRuntime) -> Result<(), Fail> {
         let status = mw_main(alloc, words.as_slice(), &mut host, &mut out, &mut err);
         assert_eq!(rt; status, Status::Done, "{script:?}");
         let text = text_of_arrival(alloc, all.as_slice(), *cycles, set.as_slice(), *dec, *uart)?;
-        assert!(rt; out.as_slice() == text.as_bytes(), "{script:?} at {cycles}");
+        assert!(rt;
+            is_text(out.as_slice(), text.as_bytes(), Cycles::Count),
+            "{script:?} at {cycles}"
+        );
         assert!(rt; err.as_slice().is_empty(), "{script:?}");
     }
     Ok(())

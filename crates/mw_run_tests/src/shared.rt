@@ -3,31 +3,11 @@ use std::alloc::{AllocError, Global};
 /// `addi r3,0,5` at 0, and `b .` at 4, little-endian.
 pub const LOOP: &[u8] = b"\x05\x00\x60\x38\x00\x00\x00\x48";
 
-/// The first instruction alone: behind it stands the word 0, which isn't built.
+/// The first instruction alone: behind it stands the word 0, which is illegal.
 pub const SINGLE: &[u8] = b"\x05\x00\x60\x38";
 
 /// paddi r3,0,-8589934592,1 and behind it `b .`: a prefix and its suffix, and a word.
 pub const PREFIXED: &[u8] = b"\x00\x00\x12\x06\x00\x00\x60\x38\x00\x00\x00\x48";
-
-/// The lines between those of the general purpose registers and that of the address.
-const BEFORE: &str = "\
-cr 00000000
-xer 0000000000000000
-lr 0000000000000000
-ctr 0000000000000000
-tar 0000000000000000
-";
-
-/// The lines between that of the address and that of the decrementer.
-pub const BETWEEN: &str = "\
-msr 9000000000001001
-srr0 0000000000000000
-srr1 0000000000000000
-hsrr0 0000000000000000
-hsrr1 0000000000000000
-dar 0000000000000000
-dsisr 00000000
-";
 
 /// The lines between that of the decrementer and that of the UART.
 pub const BEHIND: &str = "\
@@ -51,8 +31,51 @@ fn digits_of<'a>(set: &[(usize, &'a str)], number: usize) -> &'a str {
     "0000000000000000"
 }
 
-/// Appends the lines from the end's on: the registers of a number that the board has, with the digits given here, and
-/// zeros in all others.
+/// What a run leaves: the registers of a number, with their digits, all others being 0; CR; the address; SRR0, SRR1 and
+/// DAR; the decrementer; and what the UART sent.
+pub struct Left<'a> {
+    pub set: &'a [(usize, &'a str)],
+    pub cr: &'a str,
+    pub cia: &'a str,
+    pub saved: [&'a str; 3],
+    pub dec: &'a str,
+    pub uart: &'a str,
+}
+
+/// No interrupt was taken, and DAR wasn't set.
+pub const UNSAVED: [&str; 3] = ["0000000000000000", "0000000000000000", "0000000000000000"];
+
+/// Appends the lines from that of MSR to that of DSISR.
+pub fn push_between(text: &mut String, saved: &[&str; 3]) -> Result<(), AllocError> {
+    let [srr0, srr1, dar] = saved;
+    text.push_str("msr 9000000000001001\n")?;
+    writeln!(text, "srr0 {srr0}")?;
+    writeln!(text, "srr1 {srr1}")?;
+    text.push_str("hsrr0 0000000000000000\nhsrr1 0000000000000000\n")?;
+    writeln!(text, "dar {dar}")?;
+    text.push_str("dsisr 00000000\n")
+}
+
+/// Appends the lines from the end's on.
+pub fn push_left(text: &mut String, cycles: u64, left: &Left) -> Result<(), AllocError> {
+    writeln!(text, "end ran {cycles}")?;
+    for number in 0..32 {
+        let digits = digits_of(left.set, number);
+        writeln!(text, "r{number} {digits}")?;
+    }
+    writeln!(text, "cr {}", left.cr)?;
+    for name in ["xer", "lr", "ctr", "tar"] {
+        writeln!(text, "{name} 0000000000000000")?;
+    }
+    writeln!(text, "cia {}", left.cia)?;
+    push_between(text, &left.saved)?;
+    writeln!(text, "dec {}", left.dec)?;
+    text.push_str(BEHIND)?;
+    writeln!(text, "uart {}", left.uart)?;
+    Ok(())
+}
+
+/// Appends the lines from the end's on, of a run that took no interrupt and left CR 0.
 pub fn push_state(
     text: &mut String,
     cycles: u64,
@@ -61,18 +84,45 @@ pub fn push_state(
     dec: &str,
     uart: &str,
 ) -> Result<(), AllocError> {
-    writeln!(text, "end ran {cycles}")?;
-    for number in 0..32 {
-        let digits = digits_of(set, number);
-        writeln!(text, "r{number} {digits}")?;
+    let left = Left {
+        set,
+        cr: "00000000",
+        cia,
+        saved: UNSAVED,
+        dec,
+        uart,
+    };
+    push_left(text, cycles, &left)
+}
+
+/// Whether the cycles of events count where two texts are compared. A board with other cycles has the same events.
+#[derive(Clone, Copy)]
+pub enum Cycles {
+    Count,
+    LeftOut,
+}
+
+/// A line, without the cycle if it is that of an event.
+fn without_cycle(line: &[u8]) -> (&[u8], &[u8]) {
+    if line.len() < 2 || line[1] != b' ' {
+        return (line, b"");
     }
-    text.push_str(BEFORE)?;
-    writeln!(text, "cia {cia}")?;
-    text.push_str(BETWEEN)?;
-    writeln!(text, "dec {dec}")?;
-    text.push_str(BEHIND)?;
-    writeln!(text, "uart {uart}")?;
-    Ok(())
+    match line[2..].iter().position(|byte| *byte == b' ') {
+        None => (line, b""),
+        Some(length) => (&line[..1], &line[2 + length..]),
+    }
+}
+
+/// Whether a printed text is the wanted one.
+pub fn is_text(printed: &[u8], wanted: &[u8], cycles: Cycles) -> bool {
+    match cycles {
+        Cycles::Count => printed == wanted,
+        Cycles::LeftOut => {
+            let lines = printed.split(|byte| *byte == b'\n').map(without_cycle);
+            let others = wanted.split(|byte| *byte == b'\n').map(without_cycle);
+            lines.eq(others)
+        }
+    }
 }
 
 /// The text of so many cycles of the loop, with the digits of r3, of the address and of the decrementer that it leaves.

@@ -1,4 +1,4 @@
-use crate::shared::{BEHIND, BETWEEN, words_of};
+use crate::shared::{BEHIND, Cycles, UNSAVED, is_text, push_between, words_of};
 use mw_cli::{Status, mw_main};
 use mw_io::{SureHost, SureSink};
 use std::alloc::{AllocError, Global};
@@ -210,7 +210,7 @@ fn text_of(alloc: Global, worked: &Worked) -> Result<String, AllocError> {
     text.push_str("tar 0000000000000000\n")?;
     let [cia, dec] = worked.behind;
     writeln!(text, "cia {cia:016x}")?;
-    text.push_str(BETWEEN)?;
+    push_between(&mut text, &UNSAVED)?;
     writeln!(text, "dec {dec:08x}")?;
     text.push_str(BEHIND)?;
     text.push_str("uart -\n")?;
@@ -240,28 +240,12 @@ fn worked_runs_are_printed_whole(rt: HostRuntime) -> Result<(), Fail> {
         let status = mw_main(alloc, words.as_slice(), &mut host, &mut out, &mut err);
         assert_eq!(rt; status, Status::Done, "{}", worked.order);
         let text = text_of(alloc, worked)?;
-        assert!(rt; out.as_slice() == text.as_bytes(), "{}", worked.order);
+        assert!(rt;
+            is_text(out.as_slice(), text.as_bytes(), Cycles::Count),
+            "{}",
+            worked.order
+        );
         assert_eq!(rt; err.as_slice(), b"".as_slice(), "{}", worked.order);
     }
-    Ok(())
-}
-
-#[test]
-fn a_trap_ends_a_run(rt: HostRuntime) -> Result<(), Fail> {
-    let alloc = rt.alloc();
-    let image = image_of(alloc, TRAPS)?;
-    let mut host = SureHost::new(alloc);
-    host.put("img", image.as_slice())?;
-    let mut out = SureSink::new(alloc);
-    let mut err = SureSink::new(alloc);
-    let words = words_of(alloc, "run img --cycles 5")?;
-    let status = mw_main(alloc, words.as_slice(), &mut host, &mut out, &mut err);
-    assert_eq!(rt; status, Status::Unbuilt);
-    assert_eq!(rt; status.number(), 8);
-    assert_eq!(rt; out.as_slice(), b"".as_slice());
-    assert_eq!(rt;
-        err.as_slice(),
-        b"mw: unbuilt at 0000000000000010\n".as_slice()
-    );
     Ok(())
 }
