@@ -5,21 +5,18 @@ ghost use Rattle.mw_digits.specs.Digits.{hex};
 ghost use Rattle.mw_isa.specs.Text.{line, event_words, end_words};
 ghost use Rattle.mw_isa.specs.Reading.{FitsEvent, FitsEnd};
 
-use crate::words::add_hex;
+use crate::words::{add_hex, instruction};
 use mw_bits::Bytes;
 use mw_digits::add_decimal;
 use mw_isa::{End, Event};
 use std::alloc::AllocError as NoMemory;
 
-/// Appends the first three words of an event: its kind, its cycle and an address.
-fn add_head(text: &mut Bytes, kind: &[u8], cycle: u64, at: u64) -> Result<(), NoMemory>
-    ensures { OnOk result
-        (text.new ≡ text.old ++ join_with_byte 32 (kind.now ∷ decimal cycle ∷ hex 16 at ∷ [])) }
+/// Appends the first two words of an event: its kind and its cycle.
+fn add_head(text: &mut Bytes, kind: u8, cycle: u64) -> Result<(), NoMemory>
+    ensures { OnOk result (text.new ≡ text.old ++ join_with_byte 32 ((kind ∷ []) ∷ decimal cycle ∷ [])) }
 {
-    text.add(kind)?;
-    text.add(b" ")?;
-    add_decimal(text, cycle)?;
-    add_hex(text, 16, at)
+    text.add(&[kind, b' '])?;
+    add_decimal(text, cycle)
 }
 
 /// Appends the word behind a prefix, if there is one.
@@ -44,16 +41,18 @@ fn add_words(text: &mut Bytes, event: Event) -> Result<(), NoMemory>
             word,
             suffix,
         } => {
-            add_head(text, b"R", cycle, cia)?;
-            add_hex(text, 8, u64::from(word))?;
+            add_head(text, b'R', cycle)?;
+            text.add(&instruction(cia, word))?;
             add_suffix(text, suffix)
         }
         Event::Trap { cycle, cia, vector } => {
-            add_head(text, b"T", cycle, cia)?;
+            add_head(text, b'T', cycle)?;
+            add_hex(text, 16, cia)?;
             add_hex(text, 4, vector.address())
         }
         Event::Irq { cycle, nia, vector } => {
-            add_head(text, b"I", cycle, nia)?;
+            add_head(text, b'I', cycle)?;
+            add_hex(text, 16, nia)?;
             add_hex(text, 4, vector.address())
         }
     }

@@ -10,6 +10,12 @@ use std::alloc::AllocError as NoMemory;
 /// The most hexadecimal digits that a number of 64 bits has.
 const MOST_DIGITS: usize = 16;
 
+/// How many bytes an address takes on a line, with the blank before it.
+const ADDRESS: usize = 17;
+
+/// How many bytes an instruction's word takes on a line, with the blank before it.
+const WORD: usize = 9;
+
 /// The most bytes of a dump that stand in one word.
 const MOST_BYTES: usize = 32;
 
@@ -21,6 +27,19 @@ pub fn add_hex(text: &mut Bytes, digits: usize, number: u64) -> Result<(), NoMem
     let mut word = [b' '; MOST_DIGITS + 1];
     write_hex(&mut word[1..=digits], number);
     text.add(&word[..=digits])
+}
+
+/// An instruction's address and its word in hexadecimal digits, a blank before each.
+#[tactic(auto, unfolding(mw_digits::specs::Digits::hex))]
+// Inlined, each digit would be moved by itself and not with the other of its pair.
+#[inline(never)]
+pub fn instruction(at: u64, word: u32) -> [u8; ADDRESS + WORD]
+    ensures { result ≡ 32 ∷ hex 16 at ++ 32 ∷ hex 8 word }
+{
+    let mut words = [b' '; ADDRESS + WORD];
+    write_hex(&mut words[1..ADDRESS], at);
+    write_hex(&mut words[ADDRESS + 1..], u64::from(word));
+    words
 }
 
 /// Writes the bytes in two hexadecimal digits each.
