@@ -29,3 +29,5 @@ mod tables;
 mod text;
 #[cfg(test)]
 mod uart;
+#[cfg(test)]
+mod xics;
