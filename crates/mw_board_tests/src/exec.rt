@@ -17,7 +17,12 @@ fn decoded(word: u32, suffix: u32) -> Decoded
 
 /// What a word at an address, with this suffix where it is a prefix, comes to where this is read as
 /// the first and the second register.
-fn outcome(word: u32, suffix: u32, [a, b]: [u64; 2], cia: u64) -> Option<Outcome> {
+fn outcome(word: u32, suffix: u32, read: [u64; 2], cia: u64) -> Option<Outcome> {
+    outcome_in(0, word, suffix, read, cia)
+}
+
+/// The same under MSR.
+fn outcome_in(msr: u64, word: u32, suffix: u32, [a, b]: [u64; 2], cia: u64) -> Option<Outcome> {
     let operands = Operands {
         a,
         b,
@@ -27,7 +32,7 @@ fn outcome(word: u32, suffix: u32, [a, b]: [u64; 2], cia: u64) -> Option<Outcome
         lr: 0,
         ctr: 0,
         tar: 0,
-        msr: 0,
+        msr,
     };
     match decoded(word, suffix) {
         Decoded::Insn(insn) => {
@@ -140,4 +145,36 @@ fn a_trap_has_its_cause(rt: HostRuntime) {
             None => panic!(rt; "{word:x} is no instruction"),
         }
     }
+}
+
+/// Whether an outcome is the interrupt of what is privileged.
+fn is_refused(outcome: Option<Outcome>) -> bool {
+    match outcome {
+        Some(Outcome::Trap { vector, cause }) => {
+            // bit 45 of SRR1, counted from the left of 64, and no other
+            vector == Vector::Program && cause == 1 << 18
+        }
+        _ => false,
+    }
+}
+
+#[test]
+fn privileged_rows_are_refused_in_problem_state(rt: HostRuntime) {
+    // PR is bit 49 of MSR, counted from the left of 64
+    let problem = 1 << 14;
+    for word in [
+        0x7c60_262a, // lwzcix r3,0,r4
+        0x7c60_272a, // stwcix r3,0,r4
+    ] {
+        assert!(rt;
+            is_refused(outcome_in(problem, word, 0, [0, 8], 0)),
+            "{word:x}"
+        );
+        assert!(rt;
+            !is_refused(outcome_in(!problem, word, 0, [0, 8], 0)),
+            "{word:x}"
+        );
+    }
+    // lwzx r3,0,r4 is not privileged
+    assert!(rt; !is_refused(outcome_in(problem, 0x7c60_202e, 0, [0, 8], 0)));
 }

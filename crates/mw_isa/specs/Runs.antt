@@ -7,8 +7,8 @@
 -- until there.
 --
 -- Below is what of it is built: image, script, number of cycles, events, registers, memory, UART bytes, and the 8,192
--- cycles. Waits, interrupts and the update discipline aren't built yet, and a run that reaches an instruction that isn't
--- built is refused.
+-- cycles. Waits, interrupts between instructions and the update discipline aren't built yet, and a run that reaches an
+-- instruction that isn't built is refused.
 use Rattle.std.specs.Prelude.{ℕ, ◌≡◌, ◌≤◌, ◌<◌, List, length, Some, All}
 use Rattle.std.specs.List.Sorted.{IsStrictlyIncreasing}
 use Rattle.mw_bus.specs.Memory.{ram_size}
