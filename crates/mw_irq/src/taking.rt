@@ -9,10 +9,7 @@ fn saved_msr(msr: u64, cause: u64) -> u64
     requires { IsCause cause }
     ensures { result ≡ saved_msr msr cause }
 {
-    field(msr, 0, 32) * 0x8000_0000
-        + field(msr, 37, 41) * 0x40_0000
-        + field(msr, 48, 63)
-        + cause
+    field(msr, 0, 32) * 0x8000_0000 + field(msr, 37, 41) * 0x40_0000 + field(msr, 48, 63) + cause
 }
 
 /// MSR behind an interrupt: EE, PR, IR, DR and RI are 0.

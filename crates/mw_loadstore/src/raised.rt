@@ -5,9 +5,7 @@ ghost use Rattle.mw_isa.specs.Storage.{IsSized, OnMemory, is_aligned, is_control
 ghost use Rattle.mw_isa.specs.Take.{IsUnmarked};
 
 use crate::address::is_in_ram;
-use mw_isa::{
-    MemOp, MemWhat, Outcome, PageFault, Raised, Stretch, Stretches, misaligned, raising,
-};
+use mw_isa::{MemOp, MemWhat, Outcome, PageFault, Raised, Stretch, Stretches, misaligned, raising};
 
 /// Whether the address of an access is a multiple of its length.
 fn is_aligned(op: &MemOp) -> bool
@@ -96,7 +94,10 @@ pub fn access_raises(op: &MemOp, placed: &Result<Stretches, PageFault>) -> Optio
 }
 
 /// The interrupt that an outcome raises, if it does, by itself or by its access where it stands. It can't fail.
-pub fn end_raises(outcome: &Outcome, placed: &Option<Result<Stretches, PageFault>>) -> Option<Raised>
+pub fn end_raises(
+    outcome: &Outcome,
+    placed: &Option<Result<Stretches, PageFault>>,
+) -> Option<Raised>
     requires sized { OnMemory IsSized outcome.now }
     requires cause { OnTrap IsUnmarked outcome.now }
     ensures value { result ≡ end_raises outcome.now placed.now }
