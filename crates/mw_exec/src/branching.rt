@@ -25,7 +25,7 @@ fn target_of(displacement: u64, insn: &Insn, cia: u64) -> u64
 }
 
 /// An address in a register as a target: its low two bits count as 0.
-fn word_address(number: u64) -> u64
+pub fn word_address(number: u64) -> u64
     ensures { result ≡ word_address number }
 {
     number / 4 * 4

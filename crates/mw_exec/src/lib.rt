@@ -13,10 +13,12 @@ mod numbers;
 mod outcome;
 mod picking;
 mod privilege;
+mod scopes;
 mod storage;
+mod system;
 mod trapping;
 mod unit;
 
 pub use finish::{finished, product_out, quotient_out};
 pub use outcome::{behind_insn, next_of};
-pub use unit::{exec, exec_into, is_built_row};
+pub use unit::{exec, exec_into};

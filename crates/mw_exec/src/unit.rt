@@ -1,7 +1,7 @@
-ghost use Rattle.std.specs.Prelude.{◌≡◌, true, Some};
+ghost use Rattle.std.specs.Prelude.{◌≡◌, Some};
 ghost use Rattle.mw_decode.specs.Decode.{IsInsn};
 ghost use Rattle.mw_isa.specs.Storage.{IsSized, OnMemory};
-ghost use Rattle.mw_isa.specs.Execute.{exec_of, is_built_row};
+ghost use Rattle.mw_isa.specs.Execute.{exec_of};
 ghost use Rattle.mw_isa.specs.Long.{IsStarted};
 ghost use Rattle.mw_isa.specs.Step.{OnLong, OnTrap};
 ghost use Rattle.mw_isa.specs.Take.{IsUnmarked};
@@ -13,39 +13,18 @@ use crate::long::{product_by, quotient_by};
 use crate::outcome::{behind_insn, branch_to};
 use crate::picking::pick_of;
 use crate::storage::storage_of;
+use crate::system::system_of;
 use crate::trapping::{call, trap_of};
 use arrayvec::ArrayVec;
 use mw_decode::Insn;
 use mw_isa::{Operands, Operation, Outcome, operation_at};
 
-/// Whether an instruction's row is built, so that `exec` can be asked.
-pub fn is_built_row(insn: &Insn) -> bool
-    requires { IsInsn insn.now }
-    ensures { result ≡ is_built_row insn.now }
-{
-    match operation_at(insn.row) {
-        Operation::Alu(_) => true,
-        Operation::Product(_) => true,
-        Operation::Quotient(_) => true,
-        Operation::Branch(_) => true,
-        Operation::Field(_) => true,
-        Operation::Fields => true,
-        Operation::Pick(_) => true,
-        Operation::Trap(_) => true,
-        Operation::Storage(_) => true,
-        Operation::Hint => true,
-        Operation::Call => true,
-        Operation::Later(_) => false,
-    }
-}
-
 /// What an instruction at the effective address `cia` comes to, from the registers that it reads: what
 /// it writes and the address of the next one, or the interrupt that it raises (Book I), written over
-/// `outcome`, whatever that was. Its row has to be built.
+/// `outcome`, whatever that was. It can't fail.
 #[tactic(auto, unfolding(mw_isa::specs::Execute::exec_of))]
 pub fn exec_into(insn: &Insn, operands: &Operands, cia: u64, outcome: &mut Outcome)
-    requires insn { IsInsn insn.now }
-    requires built { is_built_row insn.now ≡ true }
+    requires { IsInsn insn.now }
     ensures outcome { exec_of insn.now operands.now cia ≡ Some outcome.new }
     ensures sized { OnMemory IsSized outcome.new }
     ensures started { OnLong IsStarted outcome.new }
@@ -63,14 +42,13 @@ pub fn exec_into(insn: &Insn, operands: &Operands, cia: u64, outcome: &mut Outco
         Operation::Storage(row) => storage_of(row, insn, operands, cia, outcome),
         Operation::Hint => branch_to(behind_insn(insn, cia), outcome),
         Operation::Call => call(outcome),
-        Operation::Later(_) => unreachable!(),
+        Operation::System(row) => system_of(row, insn, operands, cia, outcome),
     }
 }
 
 /// What `exec_into` writes, as a value of its own.
 pub fn exec(insn: &Insn, operands: &Operands, cia: u64) -> Outcome
-    requires insn { IsInsn insn.now }
-    requires built { is_built_row insn.now ≡ true }
+    requires { IsInsn insn.now }
     ensures outcome { exec_of insn.now operands.now cia ≡ Some result }
     ensures sized { OnMemory IsSized result }
     ensures started { OnLong IsStarted result }

@@ -1,5 +1,5 @@
 -- Where an instruction goes on, and how many registers it writes.
-use Rattle.std.proofs.Common.{◌≡◌, ℕ, ◌+◌, ◌%◌, ◌^◌, ◌≤◌, Bool, true, false, cond, length, [], ◌∷◌, ◌++◌, Option, Some, None, option_and_then, slice_get, refl, sym, subst, arith}
+use Rattle.std.proofs.Common.{◌≡◌, ℕ, ◌+◌, ◌%◌, ◌^◌, ◌≤◌, Bool, true, false, cond, length, [], ◌∷◌, ◌++◌, Option, Some, None, option_map, slice_get, refl, sym, subst, arith}
 use Rattle.std.specs.Option.{option_map_or}
 use Rattle.mw_decode.specs.declared.insn.Insn.{Insn}
 use Rattle.mw_decode.specs.Decode.{IsInsn}
@@ -10,7 +10,11 @@ use Rattle.mw_isa.specs.declared.memory.MemOp.{MemOp}
 use Rattle.mw_isa.specs.declared.operation.BranchRow.{BranchRow}
 use Rattle.mw_isa.specs.declared.operation.BranchRow.TheVariants.{B, Bc, Bclr, Bcctr, Bctar}
 use Rattle.mw_isa.specs.declared.operation.Operation.{Operation}
-use Rattle.mw_isa.specs.declared.operation.Operation.TheVariants.{Alu, Product, Quotient, Branch, Field, Fields, Pick, Trap, Storage, Hint, Call, Later}
+use Rattle.mw_isa.specs.declared.operation.Operation.TheVariants.{Alu, Product, Quotient, Branch, Field, Fields, Pick, Trap, Storage, Hint, Call, System}
+use Rattle.mw_isa.specs.declared.operation.SystemRow.{SystemRow}
+use Rattle.mw_isa.specs.declared.operation.SystemWhat.{SystemWhat}
+use Rattle.mw_isa.specs.declared.operation.SystemWhat.TheVariants.{Return, Isync, Sync, Order, ReadMsr, WriteMsr, Tlbie, ReadSpr, WriteSpr, Random}
+use Rattle.mw_isa.specs.declared.place.Places.{Places}
 use Rattle.mw_isa.specs.declared.outcome.Operands.{Operands}
 use Rattle.mw_isa.specs.declared.outcome.Outcome.{Outcome}
 use Rattle.mw_isa.specs.declared.outcome.Outcome.TheVariants.{Long, Memory, Trap as Trapped}
@@ -21,7 +25,7 @@ use Rattle.mw_isa.specs.declared.vector.Vector.TheVariants.{Program}
 use Rattle.mw_isa.specs.Branches.{count_of, falls, is_taken, word_address}
 use Rattle.mw_isa.specs.Condition.{cr_bit}
 use Rattle.mw_isa.specs.Endings.{slot_if, writes_field, writes_xer}
-use Rattle.mw_isa.specs.Execute.{access_of, arithmetic_of, behind_insn, branch_of, branch_to, call, effect_of, exec_of, field_of, fields_of, goal_of, is_refused, pick_of, refusal, storage_of, target_of, trap_of, traps, updated_of, written_of}
+use Rattle.mw_isa.specs.Execute.{access_of, arithmetic_of, behind_insn, branch_of, branch_to, call, effect_of, exec_of, field_of, fields_of, goal_of, is_refused, pick_of, refusal, storage_of, system_effect, target_of, trap_of, traps, updated_of, written_of}
 use Rattle.mw_isa.specs.Fetch.{behind}
 use Rattle.mw_isa.specs.Msr.{bit_at, trap_place}
 use Rattle.mw_isa.specs.Operations.{operations}
@@ -76,43 +80,55 @@ refused-aligned : (b : Bool) (insn : Insn) (op : MemOp) (at : ℕ) (regs : Regs)
 refused-aligned true insn op at regs a = a
 refused-aligned false insn op at regs a = behind_insn-aligned insn at a
 
-effect-aligned : (operation : Operation) (insn : Insn) (o : Operands) (at : ℕ) (outcome : Outcome) (regs : Regs) → HasLimits insn operation → effect_of operation insn o at ≡ Some outcome → IsAligned at → IsAligned (next_of insn outcome regs at)
-effect-aligned (Alu row) insn o at outcome regs h e a =
-    let is : arithmetic_of row insn o at ≡ outcome = cc in
-    subst (λ (v : Outcome). IsAligned (next_of insn v regs at)) is (behind_insn-aligned insn at a)
-effect-aligned (Product row) insn o at (Long op) regs h e a = behind_insn-aligned insn at a
-effect-aligned (Product row) insn o at outcome regs h e a = cc
-effect-aligned (Quotient row) insn o at (Long op) regs h e a = behind_insn-aligned insn at a
-effect-aligned (Quotient row) insn o at outcome regs h e a = cc
-effect-aligned (Branch row) insn o at outcome regs h e a =
-    let is : branch_of row insn o at ≡ outcome = cc in
-    subst (λ (v : Outcome). IsAligned (next_of insn v regs at)) is (either-aligned (is_taken (bo_of row insn) (count_of (bo_of row insn) o.ctr) (cr_bit o.cr (bi_of row insn))) (goal_of row insn o at) (behind at) (goal-aligned row insn o at h a) (behind-aligned at a))
-effect-aligned (Field row) insn o at outcome regs h e a =
-    let is : field_of row insn o at ≡ outcome = cc in
-    subst (λ (v : Outcome). IsAligned (next_of insn v regs at)) is (behind_insn-aligned insn at a)
-effect-aligned Fields insn o at outcome regs h e a =
-    let is : fields_of insn o at ≡ outcome = cc in
-    subst (λ (v : Outcome). IsAligned (next_of insn v regs at)) is (behind_insn-aligned insn at a)
-effect-aligned (Pick row) insn o at outcome regs h e a =
-    let is : pick_of row insn o at ≡ outcome = cc in
-    subst (λ (v : Outcome). IsAligned (next_of insn v regs at)) is (behind_insn-aligned insn at a)
-effect-aligned (Trap row) insn o at outcome regs h e a =
-    let is : trap_of row insn o at ≡ outcome = cc in
-    subst (λ (v : Outcome). IsAligned (next_of insn v regs at)) is (trap-aligned (traps row insn o) insn at regs a)
-effect-aligned (Storage row) insn o at outcome regs h e a =
-    let is : storage_of row insn o at ≡ outcome = cc in
-    subst (λ (v : Outcome). IsAligned (next_of insn v regs at)) is (refused-aligned (is_refused row.privilege insn o.msr) insn (access_of row insn o at) at regs a)
-effect-aligned Hint insn o at outcome regs h e a =
-    let is : branch_to (behind_insn insn at) ≡ outcome = cc in
-    subst (λ (v : Outcome). IsAligned (next_of insn v regs at)) is (behind_insn-aligned insn at a)
-effect-aligned Call insn o at outcome regs h e a =
-    let is : call ≡ outcome = cc in
-    subst (λ (v : Outcome). IsAligned (next_of insn v regs at)) is a
-effect-aligned (Later privilege) insn o at outcome regs h e a = cc
+-- what a row of the system asks for
+asked-aligned : (what : SystemWhat) (places : Places) (insn : Insn) (o : Operands) (at : ℕ) (regs : Regs) → IsAligned at → IsAligned (next_of insn (system_effect what places insn o at) regs at)
+asked-aligned (Return true) places insn o at regs a = word-aligned regs.hsrr0
+asked-aligned (Return false) places insn o at regs a = word-aligned regs.srr0
+asked-aligned Isync places insn o at regs a = behind_insn-aligned insn at a
+asked-aligned Sync places insn o at regs a = behind_insn-aligned insn at a
+asked-aligned Order places insn o at regs a = behind_insn-aligned insn at a
+asked-aligned ReadMsr places insn o at regs a = behind_insn-aligned insn at a
+asked-aligned WriteMsr places insn o at regs a = behind_insn-aligned insn at a
+asked-aligned Tlbie places insn o at regs a = behind_insn-aligned insn at a
+asked-aligned ReadSpr places insn o at regs a = behind_insn-aligned insn at a
+asked-aligned WriteSpr places insn o at regs a = behind_insn-aligned insn at a
+asked-aligned Random places insn o at regs a = behind_insn-aligned insn at a
 
-exec-aligned : (operation : Option Operation) (insn : Insn) (o : Operands) (at : ℕ) (outcome : Outcome) (regs : Regs) → ((known : Operation) → operation ≡ Some known → HasLimits insn known) → option_and_then (λ known. effect_of known insn o at) operation ≡ Some outcome → IsAligned at → IsAligned (next_of insn outcome regs at)
+system-aligned : (b : Bool) (row : SystemRow) (insn : Insn) (o : Operands) (at : ℕ) (regs : Regs) → IsAligned at → IsAligned (next_of insn (cond b refusal (system_effect row.what (places_of (System row)) insn o at)) regs at)
+system-aligned true row insn o at regs a = a
+system-aligned false row insn o at regs a = asked-aligned row.what (places_of (System row)) insn o at regs a
+
+effect-aligned : (operation : Operation) (insn : Insn) (o : Operands) (at : ℕ) (outcome : Outcome) (regs : Regs) → HasLimits insn operation → effect_of operation insn o at ≡ outcome → IsAligned at → IsAligned (next_of insn outcome regs at)
+effect-aligned (Alu row) insn o at outcome regs h e a =
+    subst (λ (v : Outcome). IsAligned (next_of insn v regs at)) e (behind_insn-aligned insn at a)
+effect-aligned (Product row) insn o at outcome regs h e a =
+    subst (λ (v : Outcome). IsAligned (next_of insn v regs at)) e (behind_insn-aligned insn at a)
+effect-aligned (Quotient row) insn o at outcome regs h e a =
+    subst (λ (v : Outcome). IsAligned (next_of insn v regs at)) e (behind_insn-aligned insn at a)
+effect-aligned (Branch row) insn o at outcome regs h e a =
+    subst (λ (v : Outcome). IsAligned (next_of insn v regs at)) e (either-aligned (is_taken (bo_of row insn) (count_of (bo_of row insn) o.ctr) (cr_bit o.cr (bi_of row insn))) (goal_of row insn o at) (behind at) (goal-aligned row insn o at h a) (behind-aligned at a))
+effect-aligned (Field row) insn o at outcome regs h e a =
+    subst (λ (v : Outcome). IsAligned (next_of insn v regs at)) e (behind_insn-aligned insn at a)
+effect-aligned Fields insn o at outcome regs h e a =
+    subst (λ (v : Outcome). IsAligned (next_of insn v regs at)) e (behind_insn-aligned insn at a)
+effect-aligned (Pick row) insn o at outcome regs h e a =
+    subst (λ (v : Outcome). IsAligned (next_of insn v regs at)) e (behind_insn-aligned insn at a)
+effect-aligned (Trap row) insn o at outcome regs h e a =
+    subst (λ (v : Outcome). IsAligned (next_of insn v regs at)) e (trap-aligned (traps row insn o) insn at regs a)
+effect-aligned (Storage row) insn o at outcome regs h e a =
+    subst (λ (v : Outcome). IsAligned (next_of insn v regs at)) e (refused-aligned (is_refused row.privilege insn o.msr) insn (access_of row insn o at) at regs a)
+effect-aligned Hint insn o at outcome regs h e a =
+    subst (λ (v : Outcome). IsAligned (next_of insn v regs at)) e (behind_insn-aligned insn at a)
+effect-aligned Call insn o at outcome regs h e a =
+    subst (λ (v : Outcome). IsAligned (next_of insn v regs at)) e a
+effect-aligned (System row) insn o at outcome regs h e a =
+    subst (λ (v : Outcome). IsAligned (next_of insn v regs at)) e (system-aligned (is_refused row.privilege insn o.msr) row insn o at regs a)
+
+exec-aligned : (operation : Option Operation) (insn : Insn) (o : Operands) (at : ℕ) (outcome : Outcome) (regs : Regs) → ((known : Operation) → operation ≡ Some known → HasLimits insn known) → option_map (λ known. effect_of known insn o at) operation ≡ Some outcome → IsAligned at → IsAligned (next_of insn outcome regs at)
 exec-aligned None insn o at outcome regs h e a = cc
-exec-aligned (Some operation) insn o at outcome regs h e a = effect-aligned operation insn o at outcome regs (h operation refl) e a
+exec-aligned (Some operation) insn o at outcome regs h e a =
+    let is : effect_of operation insn o at ≡ outcome = cc in
+    effect-aligned operation insn o at outcome regs (h operation refl) is a
 
 -- the next address is a multiple of 4 where this one is
 pub next-aligned : (insn : Insn) (o : Operands) (at : ℕ) (outcome : Outcome) (regs : Regs) → IsInsn insn → exec_of insn o at ≡ Some outcome → IsAligned at → IsAligned (next_of insn outcome regs at)
@@ -167,7 +183,7 @@ few-by (Trap row) insn e = omega arith
 few-by (Storage row) insn e = few-accessed row.what (written_of (places_of (Storage row)) insn) (updated_of row (places_of (Storage row)) insn)
 few-by Hint insn e = omega arith
 few-by Call insn e = omega arith
-few-by (Later privilege) insn e = omega arith
+few-by (System row) insn e = few-picked (register_at insn (places_of (System row)).written)
 
 -- no row but mtcrf and mtocrf writes more than three registers
 pub few-targets : (insn : Insn) (operation : Operation) → slice_get operations insn.row ≡ Some operation → sets_fields operation ≡ false → length (targets_of insn) ≤ 3

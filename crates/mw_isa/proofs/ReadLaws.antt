@@ -1,5 +1,5 @@
 -- What an instruction reads and writes of the registers, known from the instruction alone.
-use Rattle.std.proofs.Common.{◌≡◌, ℕ, zero, suc, ◌+◌, ◌*◌, ◌%◌, ◌^◌, ◌<◌, ◌≤◌, arith, Bool, true, false, cond, List, [], ◌∷◌, ◌++◌, Option, Some, None, option_and_then, slice_get, refl, sym, ap, ap₂, ◌∙◌}
+use Rattle.std.proofs.Common.{◌≡◌, ℕ, zero, suc, ◌+◌, ◌*◌, ◌%◌, ◌^◌, ◌<◌, ◌≤◌, arith, Bool, true, false, cond, List, [], ◌∷◌, ◌++◌, Option, Some, None, option_and_then, option_map, slice_get, refl, sym, ap, ap₂, ◌∙◌}
 use Rattle.std.specs.Option.{option_map_or}
 use Rattle.std.proofs.lemmas.List.{map-append}
 use Rattle.std.proofs.lemmas.Nat.{pow-add}
@@ -11,7 +11,7 @@ use Rattle.mw_isa.specs.declared.memory.MemWhat.{MemWhat}
 use Rattle.mw_isa.specs.declared.memory.MemWhat.TheVariants.{Load, Store, Conditional, Zero, Clean, Icbi}
 use Rattle.mw_isa.specs.declared.operation.Ending.{Ending}
 use Rattle.mw_isa.specs.declared.operation.Operation.{Operation}
-use Rattle.mw_isa.specs.declared.operation.Operation.TheVariants.{Alu, Product, Quotient, Branch, Field, Fields, Pick, Trap, Storage, Hint, Call, Later}
+use Rattle.mw_isa.specs.declared.operation.Operation.TheVariants.{Alu, Product, Quotient, Branch, Field, Fields, Pick, Trap, Storage, Hint, Call, System}
 use Rattle.mw_isa.specs.declared.outcome.Operands.{Operands}
 use Rattle.mw_isa.specs.declared.outcome.Target.{Target}
 use Rattle.mw_isa.specs.declared.long.LongOp.{LongOp}
@@ -31,12 +31,15 @@ use Rattle.mw_isa.specs.Endings.{slot_if, writes_field, writes_xer}
 use Rattle.mw_isa.specs.Special.{bo_of, fields_in, named_slots, nothing, slots_in, special_of, special_slots}
 use Rattle.mw_isa.specs.Xer.{bits_after, xer_bits}
 use Rattle.mw_isa.specs.Storage.{access_targets, update_targets}
-use Rattle.mw_isa.specs.Execute.{access_of, is_refused, refusal, end_with, ended, out_of, effect_of, arithmetic_of, product_by, quotient_by, branch_of, count_target, link_target, field_of, field_targets, fields_of, pick_of, picked_of, result_at, trap_of, traps, storage_of, branch_to, behind_insn, exec_of}
+use Rattle.mw_isa.specs.declared.operation.SystemRow.{SystemRow}
+use Rattle.mw_isa.specs.declared.operation.SystemWhat.{SystemWhat}
+use Rattle.mw_isa.specs.declared.operation.SystemWhat.TheVariants.{Return, Isync, Sync, Order, ReadMsr, WriteMsr, Tlbie, ReadSpr, WriteSpr, Random}
+use Rattle.mw_isa.specs.Execute.{call, system_effect, access_of, is_refused, refusal, end_with, ended, out_of, effect_of, arithmetic_of, product_by, quotient_by, branch_of, count_target, link_target, field_of, field_targets, fields_of, pick_of, picked_of, result_at, trap_of, traps, storage_of, branch_to, behind_insn, exec_of}
 use Rattle.mw_isa.specs.Finish.{bits_behind, finished}
 use Rattle.mw_isa.specs.Msr.{bit_at, trap_place}
 use Rattle.mw_isa.specs.Operations.{operations}
 use Rattle.mw_isa.specs.Raises.{outcome_raises}
-use Rattle.mw_isa.specs.Places.{operand_of, places_of}
+use Rattle.mw_isa.specs.Places.{operand_of, places_in, places_of, system_roles}
 use Rattle.mw_isa.specs.Reads.{Agree, chosen_digits, held, no_sources, operands_at, operands_by, operands_in, part_if, read_slots, reads_by, reads_of, sources_at, register_at}
 use Rattle.mw_isa.specs.Slots.{bits_of, bits_upon, bits_with, known, slots_of}
 use Rattle.mw_isa.specs.Targets.{access_slots, ending_slots, long_slots, targets_by, targets_of, update_slots, written_slots}
@@ -238,43 +241,56 @@ access-written true op outcome is calm =
 access-written false op outcome is calm = ap written_slots (sym is)
 
 -- what an operation comes to writes the registers that it is known to write, if it raises no interrupt
-effect-slots : (operation : Operation) (insn : Insn) (o : Operands) (cia : ℕ) (outcome : Outcome) → effect_of operation insn o cia ≡ Some outcome → outcome_raises outcome ≡ None → written_slots outcome ≡ targets_by operation insn
-effect-slots (Alu row) insn o cia outcome e calm =
-    let is : arithmetic_of row insn o cia ≡ outcome = cc in
-    ap written_slots (sym is) ∙ ended-slots row.ending (places_of (Alu row)) insn (out_of row insn o cia) o.xer
-effect-slots (Product row) insn o cia outcome e calm =
-    let is : Long (product_by row insn o) ≡ outcome = cc in
-    ap written_slots (sym is)
-effect-slots (Quotient row) insn o cia outcome e calm =
-    let is : Long (quotient_by row insn o) ≡ outcome = cc in
-    ap written_slots (sym is)
-effect-slots (Branch row) insn o cia outcome e calm =
-    let is : branch_of row insn o cia ≡ outcome = cc in
-    ap written_slots (sym is) ∙ branch-slots (bo_of row insn) insn.lk o.ctr cia (falls (bo_of row insn)) refl
-effect-slots (Field row) insn o cia outcome e calm =
-    let is : field_of row insn o cia ≡ outcome = cc in
-    ap written_slots (sym is)
-effect-slots Fields insn o cia outcome e calm =
-    let is : fields_of insn o cia ≡ outcome = cc in
-    ap written_slots (sym is) ∙ fields-slots (operand_of insn 0) o.a 8
-effect-slots (Pick row) insn o cia outcome e calm =
-    let is : pick_of row insn o cia ≡ outcome = cc in
-    ap written_slots (sym is) ∙ result-slots (register_at insn (places_of (Pick row)).written) (picked_of row insn o cia)
-effect-slots (Trap row) insn o cia outcome e calm =
-    let is : trap_of row insn o cia ≡ outcome = cc in
-    ap written_slots (sym is) ∙ trap-slots (traps row insn o) (behind_insn insn cia)
-effect-slots (Storage row) insn o cia outcome e calm =
-    let is : storage_of row insn o cia ≡ outcome = cc in
-    access-written (is_refused row.privilege insn o.msr) (access_of row insn o cia) outcome is calm
-effect-slots Hint insn o cia outcome e calm =
-    let is : branch_to (behind_insn insn cia) ≡ outcome = cc in
-    ap written_slots (sym is)
-effect-slots Call insn o cia outcome e calm = cc
-effect-slots (Later privilege) insn o cia outcome e calm = cc
+-- what a row of the system asks for writes RT, where it has one
+asked-slots-by : (what : SystemWhat) (insn : Insn) (o : Operands) (cia : ℕ) → written_slots (system_effect what (places_in (system_roles what)) insn o cia) ≡ slots_in (register_at insn (places_in (system_roles what)).written)
+asked-slots-by (Return hypervisor) insn o cia = refl
+asked-slots-by Isync insn o cia = refl
+asked-slots-by Sync insn o cia = refl
+asked-slots-by Order insn o cia = refl
+asked-slots-by ReadMsr insn o cia = refl
+asked-slots-by WriteMsr insn o cia = refl
+asked-slots-by Tlbie insn o cia = refl
+asked-slots-by ReadSpr insn o cia = refl
+asked-slots-by WriteSpr insn o cia = refl
+asked-slots-by Random insn o cia = refl
 
-slots-by : (operation : Option Operation) (insn : Insn) (o : Operands) (cia : ℕ) (outcome : Outcome) → option_and_then (λ known. effect_of known insn o cia) operation ≡ Some outcome → outcome_raises outcome ≡ None → written_slots outcome ≡ option_map_or (λ known. targets_by known insn) operation []
+system-written : (b : Bool) (row : SystemRow) (insn : Insn) (o : Operands) (cia : ℕ) (outcome : Outcome) → cond b refusal (system_effect row.what (places_of (System row)) insn o cia) ≡ outcome → outcome_raises outcome ≡ None → written_slots outcome ≡ slots_in (register_at insn (places_of (System row)).written)
+system-written true row insn o cia outcome is calm =
+    let raised : outcome_raises refusal ≡ None = ap outcome_raises is ∙ calm in
+    cc
+system-written false row insn o cia outcome is calm = ap written_slots (sym is) ∙ asked-slots-by row.what insn o cia
+
+effect-slots : (operation : Operation) (insn : Insn) (o : Operands) (cia : ℕ) (outcome : Outcome) → effect_of operation insn o cia ≡ outcome → outcome_raises outcome ≡ None → written_slots outcome ≡ targets_by operation insn
+effect-slots (Alu row) insn o cia outcome e calm =
+    ap written_slots (sym e) ∙ ended-slots row.ending (places_of (Alu row)) insn (out_of row insn o cia) o.xer
+effect-slots (Product row) insn o cia outcome e calm =
+    ap written_slots (sym e)
+effect-slots (Quotient row) insn o cia outcome e calm =
+    ap written_slots (sym e)
+effect-slots (Branch row) insn o cia outcome e calm =
+    ap written_slots (sym e) ∙ branch-slots (bo_of row insn) insn.lk o.ctr cia (falls (bo_of row insn)) refl
+effect-slots (Field row) insn o cia outcome e calm =
+    ap written_slots (sym e)
+effect-slots Fields insn o cia outcome e calm =
+    ap written_slots (sym e) ∙ fields-slots (operand_of insn 0) o.a 8
+effect-slots (Pick row) insn o cia outcome e calm =
+    ap written_slots (sym e) ∙ result-slots (register_at insn (places_of (Pick row)).written) (picked_of row insn o cia)
+effect-slots (Trap row) insn o cia outcome e calm =
+    ap written_slots (sym e) ∙ trap-slots (traps row insn o) (behind_insn insn cia)
+effect-slots (Storage row) insn o cia outcome e calm =
+    access-written (is_refused row.privilege insn o.msr) (access_of row insn o cia) outcome e calm
+effect-slots Hint insn o cia outcome e calm =
+    ap written_slots (sym e)
+effect-slots Call insn o cia outcome e calm =
+    let raised : outcome_raises call ≡ None = ap outcome_raises e ∙ calm in
+    cc
+effect-slots (System row) insn o cia outcome e calm = system-written (is_refused row.privilege insn o.msr) row insn o cia outcome e calm
+
+slots-by : (operation : Option Operation) (insn : Insn) (o : Operands) (cia : ℕ) (outcome : Outcome) → option_map (λ known. effect_of known insn o cia) operation ≡ Some outcome → outcome_raises outcome ≡ None → written_slots outcome ≡ option_map_or (λ known. targets_by known insn) operation []
 slots-by None insn o cia outcome e calm = cc
-slots-by (Some operation) insn o cia outcome e calm = effect-slots operation insn o cia outcome e calm
+slots-by (Some operation) insn o cia outcome e calm =
+    let is : effect_of operation insn o cia ≡ outcome = cc in
+    effect-slots operation insn o cia outcome is calm
 
 -- an instruction's outcome that raises no interrupt writes the registers that the instruction is known to write, in their
 -- order

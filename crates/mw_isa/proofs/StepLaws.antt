@@ -10,18 +10,27 @@ use Rattle.mw_isa.specs.declared.memory.MemOp.{MemOp}
 use Rattle.mw_isa.specs.declared.memory.MemWhat.{MemWhat}
 use Rattle.mw_isa.specs.declared.memory.MemWhat.TheVariants.{Load, Store, Conditional, Zero, Clean, Icbi}
 use Rattle.mw_isa.specs.declared.outcome.Outcome.{Outcome}
-use Rattle.mw_isa.specs.declared.outcome.Outcome.TheVariants.{Done, Long, Memory, Trap}
+use Rattle.mw_isa.specs.declared.outcome.Outcome.TheVariants.{Done, Long, Memory, System, Trap}
 use Rattle.mw_isa.specs.declared.pages.Stretches.{Stretches}
 use Rattle.mw_isa.specs.declared.raised.Raised.{Raised}
+use Rattle.mw_isa.specs.declared.numbered.Numbered.{Numbered}
+use Rattle.mw_isa.specs.declared.numbered.Numbered.TheVariants.{Xer, Lr, Ctr, Dsisr, Dar, Dec, Srr0, Srr1, Pidr, Sprg, TimeBase, TimeBaseUpper, TimeBaseHalf, Pvr, Hsprg, Hsrr0, Hsrr1, Prtbl, Tar, Pir}
+use Rattle.mw_isa.specs.declared.numbered.SprRefusal.{SprRefusal}
+use Rattle.mw_isa.specs.declared.numbered.Use.TheVariants.{Write}
+use Rattle.mw_isa.specs.declared.system.SysOp.{SysOp}
+use Rattle.mw_isa.specs.declared.system.SysOp.TheVariants.{ReadSpr, WriteSpr, WriteMsr, Return, Tlbie, Sync, Isync}
+use Rattle.mw_isa.specs.Sprs.{devices_with, held, is_problem, refusal_of, register_for, result_unless, with_content, write_of}
+use Rattle.mw_isa.specs.System.{held_or, system_done}
 use Rattle.mw_isa.specs.Raises.{Placed, cut_raised, decoded_raises, earlier, fetch_raises, words_raise}
 use Rattle.mw_isa.specs.Vectors.{address_of}
 use Rattle.mw_isa.specs.Words.{insn_in, insn_of, decoded_of}
+use Rattle.mw_isa.specs.declared.regs.Regs.{Regs}
 use Rattle.mw_isa.specs.State.{State}
 use Rattle.mw_isa.specs.Pages.{is_in_ram}
 use Rattle.mw_isa.specs.Fetch.{fetch_at, fetched, is_cut, word_of, suffix_of}
 use Rattle.mw_isa.specs.Slots.{get_slot}
 use Rattle.mw_isa.specs.Reads.{operands_of}
-use Rattle.mw_isa.specs.Execute.{exec_of, is_built_row}
+use Rattle.mw_isa.specs.Execute.{exec_of}
 use Rattle.mw_soc.specs.DeviceData.{DeviceData}
 use Rattle.mw_soc.specs.Devices.{cycle_of}
 use Rattle.mw_soc.proofs.Laws.{cycle-device_load, cycle-device_store}
@@ -65,24 +74,16 @@ under_way-known words insn outcome state k =
     ∙ ap (λ (o : Option Outcome). carried (Some words) (Some insn) o state) (outcome_of-known insn outcome state k.outcome_is)
 
 -- whether the next instruction is built, once it is known what it comes to
-pub builds-known : (words : Fetched) (insn : Insn) (outcome : Outcome) (state : State) → IsKnown words insn outcome state → builds state ≡ (is_built_row insn && is_built_outcome outcome (placed_of outcome))
+pub builds-known : (words : Fetched) (insn : Insn) (outcome : Outcome) (state : State) → IsKnown words insn outcome state → builds state ≡ is_built_outcome outcome (placed_of outcome) state.regs
 unfolding builds
-builds-known words insn outcome state k = ap builds_by (under_way-known words insn outcome state k)
+builds-known words insn outcome state k = ap (λ (it : UnderWay). builds_by it state.regs) (under_way-known words insn outcome state k)
 
 -- words that are no instruction are built: they raise an interrupt
 pub builds-none : (words : Fetched) (state : State) → fetched state ≡ Some words → insn_of words ≡ None → builds state ≡ true
 unfolding builds under_way carried outcome_of
 builds-none words state w none =
-    ap (λ (o : Option Fetched). builds_by (carried o (option_and_then insn_of o) (outcome_of (option_and_then insn_of o) state.regs.cia state.regs) state)) w
-    ∙ ap (λ (i : Option Insn). builds_by (carried (Some words) i (outcome_of i state.regs.cia state.regs) state)) none
-
--- an instruction of a row that isn't is not
-pub builds-not : (words : Fetched) (insn : Insn) (state : State) → fetched state ≡ Some words → insn_of words ≡ Some insn → is_built_row insn ≡ false → builds state ≡ false
-unfolding builds under_way carried
-builds-not words insn state w is unbuilt =
-    ap (λ (o : Option Fetched). builds_by (carried o (option_and_then insn_of o) (outcome_of (option_and_then insn_of o) state.regs.cia state.regs) state)) w
-    ∙ ap (λ (i : Option Insn). builds_by (carried (Some words) i (outcome_of i state.regs.cia state.regs) state)) is
-    ∙ ap (λ (b : Bool). b && option_map_or (λ (o : Outcome). is_built_outcome o (option_and_then placed_of (outcome_of (Some insn) state.regs.cia state.regs))) (outcome_of (Some insn) state.regs.cia state.regs) true) unbuilt
+    ap (λ (o : Option Fetched). builds_by (carried o (option_and_then insn_of o) (outcome_of (option_and_then insn_of o) state.regs.cia state.regs) state) state.regs) w
+    ∙ ap (λ (i : Option Insn). builds_by (carried (Some words) i (outcome_of i state.regs.cia state.regs) state) state.regs) none
 
 -- words that are cut off are no instruction
 pub insn_of-cut : (words : Fetched) → is_cut words ≡ true → insn_of words ≡ None
@@ -107,33 +108,33 @@ chain_of : Fetched → Option Raised → Option Raised → Option Raised
 chain_of words by_words by_outcome = option_map (marked (Some words)) (earlier (if is_cut words then Some cut_raised else None) (earlier by_words by_outcome))
 
 -- what is raised behind words that were fetched
-trap-chain : (words : Fetched) (state : State) → fetched state ≡ Some words → (step state).trap ≡ chain_of words (words_raise words (get_slot state.regs)) (option_and_then (λ (o : Outcome). end_raises o (under_way state).placed) (under_way state).outcome)
+trap-chain : (words : Fetched) (state : State) → fetched state ≡ Some words → (step state).trap ≡ chain_of words (words_raise words (get_slot state.regs)) (option_and_then (λ (o : Outcome). end_raises o (under_way state).placed state.regs.msr) (under_way state).outcome)
 unfolding step under_way chain_of
 trap-chain words state w =
-    ap (λ (o : Option Fetched). option_map (marked o) (earlier (fetch_raises (fetch_at state.regs.cia) o) (earlier (option_and_then (λ (x : Fetched). words_raise x (get_slot state.regs)) o) (option_and_then (λ (x : Outcome). end_raises x (under_way state).placed) (under_way state).outcome)))) w
+    ap (λ (o : Option Fetched). option_map (marked o) (earlier (fetch_raises (fetch_at state.regs.cia) o) (earlier (option_and_then (λ (x : Fetched). words_raise x (get_slot state.regs)) o) (option_and_then (λ (x : Outcome). end_raises x (under_way state).placed state.regs.msr) (under_way state).outcome)))) w
 
 -- a step whose words are cut off traps by its fetch
 pub trapped-fetch : (words : Fetched) (state : State) → fetched state ≡ Some words → is_cut words ≡ true → (step state).trap ≡ Some (marked (Some words) cut_raised)
 unfolding chain_of
 trapped-fetch words state w cut =
     trap-chain words state w
-    ∙ ap (λ (b : Bool). option_map (marked (Some words)) (earlier (cond b (Some cut_raised) None) (earlier (words_raise words (get_slot state.regs)) (option_and_then (λ (o : Outcome). end_raises o (under_way state).placed) (under_way state).outcome)))) cut
+    ∙ ap (λ (b : Bool). option_map (marked (Some words)) (earlier (cond b (Some cut_raised) None) (earlier (words_raise words (get_slot state.regs)) (option_and_then (λ (o : Outcome). end_raises o (under_way state).placed state.regs.msr) (under_way state).outcome)))) cut
 
 -- one whose words raise an interrupt traps by its words
 pub trapped-words : (words : Fetched) (raised : Raised) (state : State) → fetched state ≡ Some words → is_cut words ≡ false → words_raise words (get_slot state.regs) ≡ Some raised → (step state).trap ≡ Some (marked (Some words) raised)
 unfolding chain_of
 trapped-words words raised state w whole raises =
     trap-chain words state w
-    ∙ ap₂ (λ (b : Bool) (r : Option Raised). option_map (marked (Some words)) (earlier (cond b (Some cut_raised) None) (earlier r (option_and_then (λ (o : Outcome). end_raises o (under_way state).placed) (under_way state).outcome)))) whole raises
+    ∙ ap₂ (λ (b : Bool) (r : Option Raised). option_map (marked (Some words)) (earlier (cond b (Some cut_raised) None) (earlier r (option_and_then (λ (o : Outcome). end_raises o (under_way state).placed state.regs.msr) (under_way state).outcome)))) whole raises
 
 -- one that comes to an outcome traps by that, or doesn't
-pub trap-known : (words : Fetched) (insn : Insn) (outcome : Outcome) (state : State) → IsKnown words insn outcome state → (step state).trap ≡ option_map (marked (Some words)) (end_raises outcome (placed_of outcome))
+pub trap-known : (words : Fetched) (insn : Insn) (outcome : Outcome) (state : State) → IsKnown words insn outcome state → (step state).trap ≡ option_map (marked (Some words)) (end_raises outcome (placed_of outcome) state.regs.msr)
 unfolding chain_of
 trap-known words insn outcome state k =
     let is = is-by (is_cut words) (decoded_of words) insn k.insn_is in
     trap-chain words state k.words_are
-    ∙ ap (λ (it : UnderWay). chain_of words (words_raise words (get_slot state.regs)) (option_and_then (λ (o : Outcome). end_raises o it.placed) it.outcome)) (under_way-known words insn outcome state k)
-    ∙ ap₂ (λ (b : Bool) (d : Decoded). option_map (marked (Some words)) (earlier (cond b (Some cut_raised) None) (earlier (decoded_raises d (get_slot state.regs)) (end_raises outcome (placed_of outcome))))) is.0 is.1
+    ∙ ap (λ (it : UnderWay). chain_of words (words_raise words (get_slot state.regs)) (option_and_then (λ (o : Outcome). end_raises o it.placed state.regs.msr) it.outcome)) (under_way-known words insn outcome state k)
+    ∙ ap₂ (λ (b : Bool) (d : Decoded). option_map (marked (Some words)) (earlier (cond b (Some cut_raised) None) (earlier (decoded_raises d (get_slot state.regs)) (end_raises outcome (placed_of outcome) state.regs.msr)))) is.0 is.1
 
 -- a step that traps takes its interrupt, and changes nothing else
 pub after-trapped : (raised : Raised) (state : State) → (step state).trap ≡ Some raised → (step state).after ≡ record state { regs = regs_raised raised state.regs.cia state.regs }
@@ -198,10 +199,49 @@ accessed-cycle op at state =
     stored-cycle op.what op at (is_reserved at state.regs.reserve) (devices_loaded op.what at state.devices)
     ∙ loaded-cycle op.what at state.devices
 
+-- what is written by number leaves it
+content-cycle : (register : Numbered) (value : ℕ) (devices : DeviceData) → cycle_of (devices_with register value devices) ≡ cycle_of devices
+content-cycle Xer value devices = refl
+content-cycle Lr value devices = refl
+content-cycle Ctr value devices = refl
+content-cycle Dsisr value devices = refl
+content-cycle Dar value devices = refl
+content-cycle Dec value devices = refl
+content-cycle Srr0 value devices = refl
+content-cycle Srr1 value devices = refl
+content-cycle Pidr value devices = refl
+content-cycle (Sprg n) value devices = refl
+content-cycle TimeBase value devices = refl
+content-cycle TimeBaseUpper value devices = refl
+content-cycle TimeBaseHalf value devices = refl
+content-cycle Pvr value devices = refl
+content-cycle (Hsprg n) value devices = refl
+content-cycle Hsrr0 value devices = refl
+content-cycle Hsrr1 value devices = refl
+content-cycle Prtbl value devices = refl
+content-cycle Tar value devices = refl
+content-cycle Pir value devices = refl
+
+held-cycle : (refusal : Option SprRefusal) (register : Option Numbered) (value : ℕ) (regs : Regs) (devices : DeviceData) → cycle_of (held_or (result_unless refusal (with_content register value regs devices)) (held regs devices)).devices ≡ cycle_of devices
+held-cycle (Some refusal) register value regs devices = refl
+held-cycle None None value regs devices = refl
+held-cycle None (Some register) value regs devices = content-cycle register value devices
+
+system-cycle : (op : SysOp) (state : State) → cycle_of (system_done op state).devices ≡ cycle_of state.devices
+unfolding write_of
+system-cycle (ReadSpr to spr) state = refl
+system-cycle (WriteSpr spr value) state = held-cycle (refusal_of Write spr (is_problem state.regs)) (register_for Write spr) value state.regs state.devices
+system-cycle (WriteMsr value l) state = refl
+system-cycle (Return hypervisor) state = refl
+system-cycle (Tlbie scope) state = refl
+system-cycle (Sync l) state = refl
+system-cycle Isync state = refl
+
 -- an outcome leaves it
 written-cycle : (outcome : Outcome) (placed : Option Placed) (state : State) → cycle_of (written outcome placed state).devices ≡ cycle_of state.devices
 written-cycle (Done targets next) placed state = refl
 written-cycle (Long op) placed state = refl
+written-cycle (System op) placed state = system-cycle op state
 written-cycle (Trap vector cause) placed state = refl
 written-cycle (Memory op) None state = refl
 written-cycle (Memory op) (Some (Err fault)) state = refl
@@ -220,4 +260,4 @@ after_of-cycle None it state = behind-cycle it.insn it.outcome it.placed it.cia 
 -- a step leaves the devices' cycle
 pub step-cycle : (state : State) → cycle_of (step state).after.devices ≡ cycle_of state.devices
 unfolding step
-step-cycle state = after_of-cycle (raises_of (under_way state) (get_slot state.regs)) (under_way state) state
+step-cycle state = after_of-cycle (raises_of (under_way state) (get_slot state.regs) state.regs.msr) (under_way state) state

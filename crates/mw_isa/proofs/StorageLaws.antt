@@ -3,7 +3,7 @@ use Rattle.std.proofs.Common.{◌≡◌, ℕ, zero, suc, Bool, true, ◌&&◌, L
 use Rattle.std.proofs.lemmas.Bool.{and_parts}
 use Rattle.mw_isa.specs.declared.memory.MemWhat.{MemWhat}
 use Rattle.mw_isa.specs.declared.operation.Operation.{Operation}
-use Rattle.mw_isa.specs.declared.operation.Operation.TheVariants.{Alu, Product, Quotient, Branch, Field, Fields, Pick, Trap, Storage, Hint, Call, Later}
+use Rattle.mw_isa.specs.declared.operation.Operation.TheVariants.{Alu, Product, Quotient, Branch, Field, Fields, Pick, Trap, Storage, Hint, Call, System}
 use Rattle.mw_isa.specs.declared.operation.StorageRow.{StorageRow}
 use Rattle.mw_isa.specs.Operations.{operations, operation_lines}
 use Rattle.mw_isa.specs.declared.memory.MemOp.{MemOp}
@@ -24,7 +24,7 @@ sized_operation (Trap row) = true
 sized_operation (Storage row) = is_sized_by row.what row.len
 sized_operation Hint = true
 sized_operation Call = true
-sized_operation (Later privilege) = true
+sized_operation (System row) = true
 
 -- so it is of each operation
 abbrev all_sized : List Operation → Bool

@@ -11,7 +11,7 @@ use Rattle.mw_muldiv.specs.Division.{Division}
 use Rattle.mw_muldiv.specs.Multiplication.{Multiplication}
 use Rattle.mw_tables.specs.Matching.{has_prefix}
 use Rattle.mw_isa.specs.declared.operation.Operation.{Operation}
-use Rattle.mw_isa.specs.declared.operation.Operation.TheVariants.{Alu, Product, Quotient, Branch, Field, Fields, Pick, Trap, Storage, Hint, Call, Later}
+use Rattle.mw_isa.specs.declared.operation.Operation.TheVariants.{Alu, Product, Quotient, Branch, Field, Fields, Pick, Trap, Storage, Hint, Call, System}
 use Rattle.mw_isa.specs.declared.operation.AluRow.{AluRow}
 use Rattle.mw_isa.specs.declared.operation.Carry.{Carry}
 use Rattle.mw_isa.specs.declared.operation.Carry.TheVariants.{NoCarry, Ca, Ov}
@@ -25,6 +25,10 @@ use Rattle.mw_isa.specs.declared.operation.QuotientRow.{QuotientRow}
 use Rattle.mw_isa.specs.declared.operation.Privilege.{Privilege}
 use Rattle.mw_isa.specs.declared.operation.Privilege.TheVariants.{Never, Always, Heavy}
 use Rattle.mw_isa.specs.declared.operation.StorageRow.{StorageRow}
+use Rattle.mw_isa.specs.declared.operation.SystemRow.{SystemRow}
+use Rattle.mw_isa.specs.declared.operation.SystemWhat.{SystemWhat}
+use Rattle.mw_isa.specs.declared.operation.SystemWhat.TheVariants.{Return, Isync, Sync, Order, ReadMsr, WriteMsr, Tlbie, ReadSpr, WriteSpr, Random}
+use Rattle.mw_isa.specs.declared.system.SysOp.TheVariants.{ReadSpr as ReadByNumber, WriteSpr as WriteByNumber, WriteMsr as MsrWritten, Return as Returning, Tlbie as GivingUp, Sync as Synchronizing, Isync as FetchingAnew}
 use Rattle.mw_isa.specs.declared.operation.BranchRow.{BranchRow}
 use Rattle.mw_isa.specs.declared.operation.BranchRow.TheVariants.{B, Bc, Bclr, Bcctr, Bctar}
 use Rattle.mw_isa.specs.declared.operation.BitLogic.{BitLogic}
@@ -37,7 +41,7 @@ use Rattle.mw_isa.specs.declared.operation.TrapRow.TheVariants.{TrapNumber, Trap
 use Rattle.mw_isa.specs.declared.memory.MemOp.{MemOp}
 use Rattle.mw_isa.specs.declared.outcome.Operands.{Operands}
 use Rattle.mw_isa.specs.declared.outcome.Outcome.{Outcome}
-use Rattle.mw_isa.specs.declared.outcome.Outcome.TheVariants.{Done, Long, Memory, Trap as Trapped}
+use Rattle.mw_isa.specs.declared.outcome.Outcome.TheVariants.{Done, Long, Memory, System as Asked, Trap as Trapped}
 use Rattle.mw_isa.specs.declared.outcome.Target.{Target}
 use Rattle.mw_isa.specs.declared.place.Places.{Places}
 use Rattle.mw_isa.specs.declared.slot.Slot.{Slot}
@@ -52,6 +56,7 @@ use Rattle.mw_isa.specs.Places.{places_of, operand_of}
 use Rattle.mw_isa.specs.Reads.{register_at}
 use Rattle.mw_isa.specs.Slots.{known}
 use Rattle.mw_isa.specs.Special.{bi_of, bo_of}
+use Rattle.mw_isa.specs.Scopes.{scope_of}
 use Rattle.mw_isa.specs.Branches.{count_of, falls, is_taken, word_address}
 use Rattle.mw_isa.specs.Condition.{compare_field, cr_bit, cr_field, field_of_bit, flags_field, has_byte, is_chosen, is_in_range, is_trapping, logic_of, match_field, with_bit}
 use Rattle.mw_isa.specs.Endings.{writes_field, writes_xer}
@@ -343,42 +348,55 @@ refusal = Trapped Program (bit_at privileged_place)
 abbrev pub storage_of : StorageRow → Insn → Operands → ℕ → Outcome
 storage_of row insn o cia = if is_refused row.privilege insn o.msr then refusal else Memory (access_of row insn o cia)
 
+-- a register gets a number at once
+abbrev pub gives : Places → Insn → ℕ → ℕ → Outcome
+gives places insn value cia = Done (record { items = result_at (register_at insn places.written) value }) (behind_insn insn cia)
+
+-- what a row of the system asks for, where its operands stand at these places: of mfmsr MSR, and of darn the number that
+-- says that there is none, at once
+abbrev pub system_effect : SystemWhat → Places → Insn → Operands → ℕ → Outcome
+system_effect (Return hypervisor) places insn o cia = Asked (Returning hypervisor)
+system_effect Isync places insn o cia = Asked FetchingAnew
+system_effect Sync places insn o cia = Asked (Synchronizing (operand_of insn 0))
+system_effect Order places insn o cia = branch_to (behind_insn insn cia)
+system_effect ReadMsr places insn o cia = gives places insn o.msr cia
+system_effect WriteMsr places insn o cia = Asked (MsrWritten o.a (operand_of insn 1 == 1))
+system_effect Tlbie places insn o cia = Asked (GivingUp (scope_of (operand_of insn 2) o.b o.a))
+system_effect ReadSpr places insn o cia = Asked (ReadByNumber (written_of places insn) (operand_of insn 1))
+system_effect WriteSpr places insn o cia = Asked (WriteByNumber (operand_of insn 0) o.a)
+system_effect Random places insn o cia = gives places insn (2 ^ 64 - 1) cia
+
+-- the rows of the system
+abbrev pub system_of : SystemRow → Insn → Operands → ℕ → Outcome
+system_of row insn o cia = if is_refused row.privilege insn o.msr then refusal else system_effect row.what (places_of (System row)) insn o cia
+
 -- a system call
 abbrev pub call : Outcome
 call = Trapped SystemCall 0
 
--- what an operation comes to; one that isn't built comes to nothing
-abbrev pub effect_of : Operation → Insn → Operands → ℕ → Option Outcome
-effect_of (Alu row) insn o cia = Some (arithmetic_of row insn o cia)
-effect_of (Product row) insn o cia = Some (Long (product_by row insn o))
-effect_of (Quotient row) insn o cia = Some (Long (quotient_by row insn o))
-effect_of (Branch row) insn o cia = Some (branch_of row insn o cia)
-effect_of (Field row) insn o cia = Some (field_of row insn o cia)
-effect_of Fields insn o cia = Some (fields_of insn o cia)
-effect_of (Pick row) insn o cia = Some (pick_of row insn o cia)
-effect_of (Trap row) insn o cia = Some (trap_of row insn o cia)
-effect_of (Storage row) insn o cia = Some (storage_of row insn o cia)
-effect_of Hint insn o cia = Some (branch_to (behind_insn insn cia))
-effect_of Call insn o cia = Some call
-effect_of (Later privilege) insn o cia = None
+-- what an operation comes to
+abbrev pub effect_of : Operation → Insn → Operands → ℕ → Outcome
+effect_of (Alu row) insn o cia = arithmetic_of row insn o cia
+effect_of (Product row) insn o cia = Long (product_by row insn o)
+effect_of (Quotient row) insn o cia = Long (quotient_by row insn o)
+effect_of (Branch row) insn o cia = branch_of row insn o cia
+effect_of (Field row) insn o cia = field_of row insn o cia
+effect_of Fields insn o cia = fields_of insn o cia
+effect_of (Pick row) insn o cia = pick_of row insn o cia
+effect_of (Trap row) insn o cia = trap_of row insn o cia
+effect_of (Storage row) insn o cia = storage_of row insn o cia
+effect_of Hint insn o cia = branch_to (behind_insn insn cia)
+effect_of Call insn o cia = call
+effect_of (System row) insn o cia = system_of row insn o cia
 
--- what an instruction at an address comes to; none where its row isn't built, or the table has no such row
+-- what an instruction at an address comes to; none where the table has no such row
 unfoldable pub exec_of : Insn → Operands → ℕ → Option Outcome
-exec_of insn operands cia = option_and_then (λ operation. effect_of operation insn operands cia) (slice_get operations insn.row)
+exec_of insn operands cia = option_map (λ operation. effect_of operation insn operands cia) (slice_get operations insn.row)
 
 -- an operation can raise an interrupt by itself
 abbrev pub can_raise : Operation → Bool
 can_raise (Trap row) = true
 can_raise (Storage row) = is_ever row.privilege
 can_raise Call = true
-can_raise (Later privilege) = is_ever privilege
+can_raise (System row) = is_ever row.privilege
 can_raise operation = false
-
--- the operation is built
-abbrev pub is_built_operation : Operation → Bool
-is_built_operation (Later privilege) = false
-is_built_operation operation = true
-
--- the row of an instruction is built
-abbrev pub is_built_row : Insn → Bool
-is_built_row insn = option_map_or is_built_operation (slice_get operations insn.row) false

@@ -16,12 +16,15 @@ pub mod Branches
 pub mod Special
 pub mod Reads
 pub mod Long
+pub mod Scopes
 pub mod Execute
 pub mod Words
 pub mod Finish
 pub mod Targets
 pub mod Storage
 pub mod Raises
+pub mod Sprs
+pub mod System
 pub mod Take
 pub mod Step
 pub mod Replay

@@ -1,7 +1,7 @@
 -- The bits of the machine state register, and the causes of an interrupt that SRR1 tells, each by its place, counted from the
 -- left of 64 (Book III, machine state register, interrupt definitions). The bits of facilities that the machine doesn't
 -- have read 0.
-use Rattle.std.specs.Prelude.{ℕ, ◌+◌, ◌-◌, ◌^◌, if◌then◌else◌}
+use Rattle.std.specs.Prelude.{ℕ, ◌+◌, ◌-◌, ◌^◌, Bool, ◌||◌, if◌then◌else◌, bit_or}
 use Rattle.mw_isa.specs.Xer.{has_bit}
 
 -- a number with the bit at a place alone
@@ -11,6 +11,10 @@ bit_at place = 2 ^ (63 - place)
 -- a number whose bit at a place is 0
 abbrev pub without_bit : ℕ → ℕ → ℕ
 without_bit place number = if has_bit number place then number - bit_at place else number
+
+-- a number whose bit at a place is 1, or 0
+abbrev pub with_bit : Bool → ℕ → ℕ → ℕ
+with_bit set place number = if set then bit_or number (bit_at place) else without_bit place number
 
 -- SF: addresses have 64 bits
 abbrev pub sf_place : ℕ
@@ -71,3 +75,20 @@ trap_place = 46
 -- the bits of MSR that are 1 whatever happens
 abbrev pub fixed_msr : ℕ
 fixed_msr = bit_at sf_place + bit_at hv_place + bit_at me_place + bit_at le_place
+
+-- MSR written from a source: EE, IR and DR are its bit or its PR, PR and RI its own, and the rest stays
+abbrev pub msr_from : ℕ → ℕ → ℕ
+msr_from source msr =
+    with_bit (has_bit source ee_place || has_bit source pr_place) ee_place
+    (with_bit (has_bit source pr_place) pr_place
+    (with_bit (has_bit source ir_place || has_bit source pr_place) ir_place
+    (with_bit (has_bit source dr_place || has_bit source pr_place) dr_place
+    (with_bit (has_bit source ri_place) ri_place msr))))
+
+-- EE and RI alone written from a source, each from its own bit
+abbrev pub msr_partly_from : ℕ → ℕ → ℕ
+msr_partly_from source msr = with_bit (has_bit source ee_place) ee_place (with_bit (has_bit source ri_place) ri_place msr)
+
+-- external interrupts are taken, or instruction or data addresses translated
+abbrev pub is_open : ℕ → Bool
+is_open msr = has_bit msr ee_place || (has_bit msr ir_place || has_bit msr dr_place)

@@ -9,7 +9,7 @@ use Rattle.mw_muldiv.specs.declared.numbers.MulKind.TheVariants.{Signed, Unsigne
 use Rattle.mw_isa.specs.declared.memory.MemWhat.{MemWhat}
 use Rattle.mw_isa.specs.declared.memory.MemWhat.TheVariants.{Load, Store, Conditional, Zero, Clean, Icbi}
 use Rattle.mw_isa.specs.declared.operation.Operation.{Operation}
-use Rattle.mw_isa.specs.declared.operation.Operation.TheVariants.{Alu, Product, Quotient, Branch, Field, Fields, Pick, Trap, Storage, Hint, Call, Later}
+use Rattle.mw_isa.specs.declared.operation.Operation.TheVariants.{Alu, Product, Quotient, Branch, Field, Fields, Pick, Trap, Storage, Hint, Call, System}
 use Rattle.mw_isa.specs.declared.operation.Inputs.{Inputs}
 use Rattle.mw_isa.specs.declared.operation.Inputs.TheVariants.{BaseNumber, SourceNumber, Two, TwoKind, Three, One, Relative, Next, WordShift, Shift, WordMask, WordMaskBy, WordInsert, Left, Right, Middle, Insert, LeftBy, RightBy}
 use Rattle.mw_isa.specs.declared.operation.Carry.{Carry}
@@ -28,6 +28,8 @@ use Rattle.mw_isa.specs.declared.operation.TrapRow.TheVariants.{TrapNumber, Trap
 use Rattle.mw_isa.specs.declared.operation.Address.TheVariants.{Displaced, Indexed, Block, Prefixed}
 use Rattle.mw_isa.specs.declared.operation.Privilege.TheVariants.{Never, Always, Heavy}
 use Rattle.mw_isa.specs.declared.operation.StorageRow.{StorageRow}
+use Rattle.mw_isa.specs.declared.operation.SystemWhat.{SystemWhat}
+use Rattle.mw_isa.specs.declared.operation.SystemWhat.TheVariants.{Return, Isync, Sync, Order, ReadMsr, WriteMsr, Tlbie, ReadSpr, WriteSpr, Random}
 
 -- a row: what the unit does, from which operands, with which carry, and what is written beside the result
 abbrev pub alu : AluOp → Inputs → Carry → Ending → Operation
@@ -112,6 +114,10 @@ privileged row = record row { privilege = Always }
 -- a cache row: so many bytes at RA|0 and RB
 abbrev pub block : MemWhat → ℕ → StorageRow
 block what len = record { what = what; len = len; address = Block; update = false; privilege = Never }
+
+-- a row of the system: what it does, and where it is privileged
+abbrev pub system : SystemWhat → Privilege → Operation
+system what privilege = System (record { what = what; privilege = privilege })
 
 -- a line of the list: a row by its name, and what it does
 pub record OperationLine : Type 0 where
@@ -321,21 +327,21 @@ operation_lines =
     ∷ on (codes "icbi") (Storage (block Icbi 1))
     ∷ on (codes "dcbz") (Storage (block Zero 64))
     ∷ on (codes "sc") Call
-    ∷ on (codes "rfid") (Later Always)
-    ∷ on (codes "hrfid") (Later Always)
-    ∷ on (codes "isync") (Later Never)
-    ∷ on (codes "sync") (Later Heavy)
-    ∷ on (codes "eieio") (Later Never)
-    ∷ on (codes "tlbsync") (Later Always)
-    ∷ on (codes "mfmsr") (Later Always)
-    ∷ on (codes "mtmsr") (Later Always)
-    ∷ on (codes "mtmsrd") (Later Always)
-    ∷ on (codes "tlbie") (Later Always)
-    ∷ on (codes "tlbiel") (Later Always)
-    ∷ on (codes "mfspr") (Later Never)
-    ∷ on (codes "mtspr") (Later Never)
-    ∷ on (codes "mftb") (Later Never)
-    ∷ on (codes "darn") (Later Never)
+    ∷ on (codes "rfid") (system (Return false) Always)
+    ∷ on (codes "hrfid") (system (Return true) Always)
+    ∷ on (codes "isync") (system Isync Never)
+    ∷ on (codes "sync") (system Sync Heavy)
+    ∷ on (codes "eieio") (system Order Never)
+    ∷ on (codes "tlbsync") (system Order Always)
+    ∷ on (codes "mfmsr") (system ReadMsr Always)
+    ∷ on (codes "mtmsr") (system WriteMsr Always)
+    ∷ on (codes "mtmsrd") (system WriteMsr Always)
+    ∷ on (codes "tlbie") (system Tlbie Always)
+    ∷ on (codes "tlbiel") (system Tlbie Always)
+    ∷ on (codes "mfspr") (system ReadSpr Never)
+    ∷ on (codes "mtspr") (system WriteSpr Never)
+    ∷ on (codes "mftb") (system ReadSpr Never)
+    ∷ on (codes "darn") (system Random Never)
     ∷ on (codes "paddi") (alu Paddi Relative NoCarry Plain)
     ∷ on (codes "plwz") (Storage (prefixed (load 4)))
     ∷ on (codes "plbz") (Storage (prefixed (load 1)))

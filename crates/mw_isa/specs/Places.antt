@@ -6,7 +6,7 @@ use Rattle.mw_tables.specs.Layouts.{operand_at}
 use Rattle.mw_isa.specs.declared.memory.MemWhat.{MemWhat}
 use Rattle.mw_isa.specs.declared.memory.MemWhat.TheVariants.{Load, Store, Conditional}
 use Rattle.mw_isa.specs.declared.operation.Operation.{Operation}
-use Rattle.mw_isa.specs.declared.operation.Operation.TheVariants.{Alu, Product, Quotient, Branch, Field, Fields, Pick, Trap, Storage, Hint, Call, Later}
+use Rattle.mw_isa.specs.declared.operation.Operation.TheVariants.{Alu, Product, Quotient, Branch, Field, Fields, Pick, Trap, Storage, Hint, Call, System}
 use Rattle.mw_isa.specs.declared.operation.Address.{Address}
 use Rattle.mw_isa.specs.declared.operation.Address.TheVariants.{Displaced, Indexed, Block, Prefixed}
 use Rattle.mw_isa.specs.declared.operation.BranchRow.{BranchRow}
@@ -17,6 +17,8 @@ use Rattle.mw_isa.specs.declared.operation.PickRow.{PickRow}
 use Rattle.mw_isa.specs.declared.operation.PickRow.TheVariants.{Select, All, Chosen, Sign, Bit}
 use Rattle.mw_isa.specs.declared.operation.TrapRow.{TrapRow}
 use Rattle.mw_isa.specs.declared.operation.TrapRow.TheVariants.{TrapNumber, TrapRegister}
+use Rattle.mw_isa.specs.declared.operation.SystemWhat.{SystemWhat}
+use Rattle.mw_isa.specs.declared.operation.SystemWhat.TheVariants.{Return, Isync, Sync, Order, ReadMsr, WriteMsr, Tlbie, ReadSpr, WriteSpr, Random}
 use Rattle.mw_isa.specs.declared.operation.Inputs.{Inputs}
 use Rattle.mw_isa.specs.declared.operation.Inputs.TheVariants.{BaseNumber, SourceNumber, Two, TwoKind, Three, One, Relative, Next, WordShift, Shift, WordMask, WordMaskBy, WordInsert, Left, Right, Middle, Insert, LeftBy, RightBy}
 use Rattle.mw_isa.specs.declared.place.Places.{Places}
@@ -151,6 +153,26 @@ trap_roles (TrapNumber long) = Code 5 ∷ First ∷ Number ∷ []
 -- TO,RA,RB
 trap_roles (TrapRegister long) = Code 5 ∷ First ∷ Second ∷ []
 
+-- the operands of a row of the system
+abbrev pub system_roles : SystemWhat → List Role
+system_roles (Return hypervisor) = []
+system_roles Isync = []
+-- L
+system_roles Sync = Code 3 ∷ []
+system_roles Order = []
+-- RT
+system_roles ReadMsr = Written ∷ []
+-- RS,L
+system_roles WriteMsr = First ∷ Code 1 ∷ []
+-- RB,RS,RIC,PRS,R
+system_roles Tlbie = Second ∷ First ∷ Code 2 ∷ Unused ∷ Unused ∷ []
+-- RT,SPR or RT,TBR
+system_roles ReadSpr = Written ∷ Code 10 ∷ []
+-- SPR,RS
+system_roles WriteSpr = Code 10 ∷ First ∷ []
+-- RT,L
+system_roles Random = Written ∷ Unused ∷ []
+
 -- the operands of an operation, where it does something with them
 abbrev pub roles_by : Operation → Option (List Role)
 roles_by (Alu row) = Some (input_roles row.inputs)
@@ -164,7 +186,7 @@ roles_by (Trap row) = Some (trap_roles row)
 roles_by (Storage row) = Some (access_roles row.address row.what)
 roles_by Hint = None
 roles_by Call = None
-roles_by (Later privilege) = None
+roles_by (System row) = Some (system_roles row.what)
 
 -- the roles, each by a test
 abbrev pub is_written : Role → Bool

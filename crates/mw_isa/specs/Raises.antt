@@ -9,7 +9,7 @@ use Rattle.mw_isa.specs.declared.access.Touch.{Touch}
 use Rattle.mw_isa.specs.declared.fetched.Fetched.{Fetched}
 use Rattle.mw_isa.specs.declared.memory.MemOp.{MemOp}
 use Rattle.mw_isa.specs.declared.outcome.Outcome.{Outcome}
-use Rattle.mw_isa.specs.declared.outcome.Outcome.TheVariants.{Done, Long, Memory, Trap}
+use Rattle.mw_isa.specs.declared.outcome.Outcome.TheVariants.{Done, Long, Memory, System, Trap}
 use Rattle.mw_isa.specs.declared.pages.PageFault.{PageFault}
 use Rattle.mw_isa.specs.declared.pages.StorageFault.{StorageFault}
 use Rattle.mw_isa.specs.declared.pages.Stretches.{Stretches}
@@ -67,6 +67,7 @@ abbrev pub outcome_raises : Outcome → Option Raised
 outcome_raises (Done targets next) = None
 outcome_raises (Long op) = None
 outcome_raises (Memory op) = None
+outcome_raises (System op) = None
 outcome_raises (Trap vector cause) = Some (raising vector cause)
 
 -- where an access stands: its stretches, or the fault of a page

@@ -9,7 +9,7 @@ use Rattle.mw_isa.specs.declared.operation.FieldRow.TheVariants.{CompareNumber, 
 use Rattle.mw_isa.specs.declared.operation.PickRow.{PickRow}
 use Rattle.mw_isa.specs.declared.operation.PickRow.TheVariants.{Select, All, Chosen, Sign, Bit}
 use Rattle.mw_isa.specs.declared.operation.Operation.{Operation}
-use Rattle.mw_isa.specs.declared.operation.Operation.TheVariants.{Alu, Product, Quotient, Branch, Field, Fields, Pick, Trap, Storage, Hint, Call, Later}
+use Rattle.mw_isa.specs.declared.operation.Operation.TheVariants.{Alu, Product, Quotient, Branch, Field, Fields, Pick, Trap, Storage, Hint, Call, System}
 use Rattle.mw_isa.specs.declared.sources.Special.{Special}
 use Rattle.mw_isa.specs.declared.slot.Slot.{Slot}
 use Rattle.mw_isa.specs.declared.slot.Slot.TheVariants.{CrField, Xer, Lr, Ctr, Tar}
@@ -107,7 +107,7 @@ special_of (Trap row) insn = nothing
 special_of (Storage row) insn = nothing
 special_of Hint insn = nothing
 special_of Call insn = nothing
-special_of (Later privilege) insn = nothing
+special_of (System row) insn = nothing
 
 -- the registers behind the fields
 abbrev pub named_slots : Special → List Slot

@@ -11,7 +11,7 @@ use Rattle.mw_isa.specs.declared.fetched.Fetched.{Fetched}
 use Rattle.mw_isa.specs.declared.long.LongOp.{LongOp}
 use Rattle.mw_isa.specs.declared.memory.MemOp.{MemOp}
 use Rattle.mw_isa.specs.declared.outcome.Outcome.{Outcome}
-use Rattle.mw_isa.specs.declared.outcome.Outcome.TheVariants.{Done, Long, Memory, Trap}
+use Rattle.mw_isa.specs.declared.outcome.Outcome.TheVariants.{Done, Long, Memory, System, Trap}
 use Rattle.mw_isa.specs.declared.pages.StorageFault.{StorageFault}
 use Rattle.mw_isa.specs.declared.pages.Stretches.{Stretches}
 use Rattle.mw_isa.specs.declared.raised.Raised.{Raised}
@@ -25,12 +25,13 @@ use Rattle.mw_isa.specs.Fetch.{behind, word_page, fetch_at, fetched}
 use Rattle.mw_isa.specs.Slots.{get_slot, set_targets}
 use Rattle.mw_isa.specs.Reads.{operands_of}
 use Rattle.mw_isa.specs.Long.{IsStarted, result_of}
-use Rattle.mw_isa.specs.Execute.{exec_of, behind_insn, is_built_row}
+use Rattle.mw_isa.specs.Execute.{exec_of, behind_insn}
 use Rattle.mw_isa.specs.Finish.{finished}
 use Rattle.mw_isa.specs.Storage.{IsSized, OnMemory, IsPlaced, pages_of, accessed, raises_alignment, reaches_controller, deed_by}
 use Rattle.mw_isa.specs.Raises.{Placed, access_raises, earlier, fetch_raises, outcome_raises, words_raise}
 use Rattle.mw_isa.specs.Take.{taken}
 use Rattle.mw_isa.specs.Msr.{bit_at, prefixed_place}
+use Rattle.mw_isa.specs.System.{system_deed, system_done, system_next, system_opens, system_raises}
 use Rattle.mw_isa.specs.Words.{insn_of}
 
 -- what an instruction carries while it is under way, each part where the one before it is there and raises nothing
@@ -65,6 +66,7 @@ outcome_of insn at regs = option_and_then (λ insn. exec_of insn (operands_of in
 abbrev pub placed_of : Outcome → Option Placed
 placed_of (Done targets next) = None
 placed_of (Long op) = None
+placed_of (System op) = None
 placed_of (Trap vector cause) = None
 placed_of (Memory op) = Some (stretches_of real_at (pages_of op))
 
@@ -83,10 +85,11 @@ under_way_of real words at regs = record {
 unfoldable pub under_way : State → UnderWay
 under_way state = under_way_of (fetch_at state.regs.cia) (fetched state) state.regs.cia state.regs
 
--- the interrupt that an outcome raises, by itself or by its access where it stands
-abbrev pub end_raises : Outcome → Option Placed → Option Raised
-end_raises (Memory op) placed = option_and_then (λ place. (access_raises op place).trap) placed
-end_raises outcome placed = outcome_raises outcome
+-- the interrupt that an outcome raises, by itself, by the number of a register under MSR, or by its access where it stands
+abbrev pub end_raises : Outcome → Option Placed → ℕ → Option Raised
+end_raises (Memory op) placed msr = option_and_then (λ place. (access_raises op place).trap) placed
+end_raises (System op) placed msr = system_raises op msr
+end_raises outcome placed msr = outcome_raises outcome
 
 -- the bit of SRR1 that tells of a prefix, where words were fetched and have one
 abbrev pub prefix_cause : Option Fetched → ℕ
@@ -98,35 +101,31 @@ abbrev pub marked : Option Fetched → Raised → Raised
 marked words raised = record raised { cause = raised.cause + prefix_cause words }
 
 -- the interrupt that an instruction raises, but for that bit, the registers being seen so: the first of the fetch, of the
--- words, and of what they come to
-abbrev pub first_raised : UnderWay → (Slot → ℕ) → Option Raised
-first_raised it view =
-    earlier (fetch_raises it.real it.words) (earlier (option_and_then (λ words. words_raise words view) it.words) (option_and_then (λ outcome. end_raises outcome it.placed) it.outcome))
+-- words, and of what they come to under MSR
+abbrev pub first_raised : UnderWay → (Slot → ℕ) → ℕ → Option Raised
+first_raised it view msr =
+    earlier (fetch_raises it.real it.words) (earlier (option_and_then (λ words. words_raise words view) it.words) (option_and_then (λ outcome. end_raises outcome it.placed msr) it.outcome))
 
 -- the interrupt that an instruction raises
-abbrev pub raises_of : UnderWay → (Slot → ℕ) → Option Raised
-raises_of it view = option_map (marked it.words) (first_raised it view)
-
--- the words are of a row that is built, if they are an instruction
-abbrev pub is_built_insn : Option Insn → Bool
-is_built_insn None = true
-is_built_insn (Some insn) = is_built_row insn
+abbrev pub raises_of : UnderWay → (Slot → ℕ) → ℕ → Option Raised
+raises_of it view msr = option_map (marked it.words) (first_raised it view msr)
 
 -- an outcome that is built: the pages of its access, if it has one, have no fault, and none of its bytes is one of the
--- interrupt controller
-abbrev pub is_built_outcome : Outcome → Option Placed → Bool
-is_built_outcome (Memory op) (Some (Ok at)) = not (reaches_controller at)
-is_built_outcome (Memory op) (Some (Err fault)) = false
-is_built_outcome (Memory op) None = false
-is_built_outcome outcome placed = true
+-- interrupt controller; the MSR that it leaves lets no external interrupt be taken and no address be translated
+abbrev pub is_built_outcome : Outcome → Option Placed → Regs → Bool
+is_built_outcome (Memory op) (Some (Ok at)) regs = not (reaches_controller at)
+is_built_outcome (Memory op) (Some (Err fault)) regs = false
+is_built_outcome (Memory op) None regs = false
+is_built_outcome (System op) placed regs = not (system_opens op regs)
+is_built_outcome outcome placed regs = true
 
 -- an instruction that is built: all that isn't stands here, beside the chain
-abbrev pub builds_by : UnderWay → Bool
-builds_by it = is_some it.words && (is_built_insn it.insn && option_map_or (λ outcome. is_built_outcome outcome it.placed) it.outcome true)
+abbrev pub builds_by : UnderWay → Regs → Bool
+builds_by it regs = is_some it.words && option_map_or (λ outcome. is_built_outcome outcome it.placed regs) it.outcome true
 
 -- the next instruction is built
 unfoldable pub builds : State → Bool
-builds state = builds_by (under_way state)
+builds state = builds_by (under_way state) state.regs
 
 -- what a long operation makes of the registers
 abbrev pub regs_after : LongOp → Regs → Regs
@@ -136,6 +135,7 @@ regs_after op regs = set_targets (finished op (result_of op) regs.xer) regs
 abbrev pub written : Outcome → Option Placed → State → State
 written (Done targets next) placed state = record state { regs = set_targets targets.items state.regs }
 written (Long op) placed state = record state { regs = regs_after op state.regs }
+written (System op) placed state = system_done op state
 written (Trap vector cause) placed state = state
 written (Memory op) None state = state
 written (Memory op) (Some (Err fault)) state = state
@@ -145,6 +145,7 @@ written (Memory op) (Some (Ok at)) state = accessed op at state
 abbrev pub next_of : Insn → Outcome → Regs → ℕ → ℕ
 next_of insn (Done targets next) regs at = next
 next_of insn (Long op) regs at = behind_insn insn at
+next_of insn (System op) regs at = system_next op regs (behind_insn insn at)
 next_of insn (Trap vector cause) regs at = at
 next_of insn (Memory op) regs at = behind_insn insn at
 
@@ -184,6 +185,7 @@ deed_at (Some (Memory op)) (Some (Ok at)) state = deed_by op.what at state
 deed_at (Some (Memory op)) (Some (Err fault)) state = Plain
 deed_at (Some (Memory op)) None state = Plain
 deed_at (Some (Long op)) placed state = Plain
+deed_at (Some (System op)) placed state = system_deed op
 deed_at (Some (Trap vector cause)) placed state = Plain
 deed_at (Some (Done targets next)) placed state = Plain
 deed_at None placed state = Plain
@@ -205,7 +207,7 @@ stepped_by it trap state = record {
 
 -- an instruction from what it carries
 abbrev pub stepped : UnderWay → State → Stepped
-stepped it state = stepped_by it (raises_of it (get_slot state.regs)) state
+stepped it state = stepped_by it (raises_of it (get_slot state.regs) state.regs.msr) state
 
 -- the next instruction
 unfoldable pub step : State → Stepped
@@ -223,6 +225,7 @@ OnPlaced P (Memory op) (Some (Ok at)) = P op at
 OnPlaced P (Memory op) (Some (Err fault)) = ⊤
 OnPlaced P (Memory op) None = ⊤
 OnPlaced P (Long op) placed = ⊤
+OnPlaced P (System op) placed = ⊤
 OnPlaced P (Trap vector cause) placed = ⊤
 OnPlaced P (Done targets next) placed = ⊤
 
@@ -230,6 +233,7 @@ OnPlaced P (Done targets next) placed = ⊤
 abbrev pub OnLong : (LongOp → Type 0) → Outcome → Type 0
 OnLong P (Done targets next) = Unit {0}
 OnLong P (Long op) = P op
+OnLong P (System op) = Unit {0}
 OnLong P (Trap vector cause) = Unit {0}
 OnLong P (Memory op) = Unit {0}
 
@@ -237,6 +241,7 @@ OnLong P (Memory op) = Unit {0}
 abbrev pub OnTrap : (ℕ → Type 0) → Outcome → Type 0
 OnTrap P (Done targets next) = ⊤
 OnTrap P (Long op) = ⊤
+OnTrap P (System op) = ⊤
 OnTrap P (Trap vector cause) = P cause
 OnTrap P (Memory op) = ⊤
 

@@ -19,7 +19,7 @@ use Rattle.mw_isa.specs.declared.memory.MemWhat.{MemWhat}
 use Rattle.mw_isa.specs.declared.memory.MemWhat.TheVariants.{Load, Store, Conditional, Zero, Clean, Icbi}
 use Rattle.mw_isa.specs.declared.memory.MemOp.{MemOp}
 use Rattle.mw_isa.specs.declared.outcome.Outcome.{Outcome}
-use Rattle.mw_isa.specs.declared.outcome.Outcome.TheVariants.{Done, Long, Memory, Trap}
+use Rattle.mw_isa.specs.declared.outcome.Outcome.TheVariants.{Done, Long, Memory, System, Trap}
 use Rattle.mw_isa.specs.declared.outcome.Target.{Target}
 use Rattle.mw_isa.specs.declared.slot.Slot.TheVariants.{Gpr, CrField}
 use Rattle.mw_isa.specs.declared.regs.Regs.{Regs}
@@ -43,6 +43,7 @@ IsSized op = is_sized_by op.what op.len ≡ true
 abbrev pub OnMemory : (MemOp → Type 0) → Outcome → Type 0
 OnMemory P (Done targets next) = Unit {0}
 OnMemory P (Long op) = Unit {0}
+OnMemory P (System op) = Unit {0}
 OnMemory P (Trap vector cause) = Unit {0}
 OnMemory P (Memory op) = P op
 

@@ -9,10 +9,12 @@ use Rattle.mw_isa.specs.declared.long.LongOp.TheVariants.{Mul, Div}
 use Rattle.mw_isa.specs.declared.operation.BranchRow.{BranchRow}
 use Rattle.mw_isa.specs.declared.operation.Ending.{Ending}
 use Rattle.mw_isa.specs.declared.operation.Operation.{Operation}
-use Rattle.mw_isa.specs.declared.operation.Operation.TheVariants.{Alu, Product, Quotient, Branch, Field, Fields, Pick, Trap, Storage, Hint, Call, Later}
+use Rattle.mw_isa.specs.declared.operation.Operation.TheVariants.{Alu, Product, Quotient, Branch, Field, Fields, Pick, Trap, Storage, Hint, Call, System}
 use Rattle.mw_isa.specs.declared.outcome.Outcome.{Outcome}
-use Rattle.mw_isa.specs.declared.outcome.Outcome.TheVariants.{Done, Long, Memory, Trap as Trapped}
+use Rattle.mw_isa.specs.declared.outcome.Outcome.TheVariants.{Done, Long, Memory, System as Asked, Trap as Trapped}
 use Rattle.mw_isa.specs.declared.place.Places.{Places}
+use Rattle.mw_isa.specs.declared.system.SysOp.{SysOp}
+use Rattle.mw_isa.specs.declared.system.SysOp.TheVariants.{ReadSpr}
 use Rattle.mw_isa.specs.declared.slot.Slot.{Slot}
 use Rattle.mw_isa.specs.declared.slot.Slot.TheVariants.{Gpr, CrField, Xer, Lr, Ctr}
 use Rattle.mw_isa.specs.Branches.{falls}
@@ -67,15 +69,21 @@ targets_by (Trap row) insn = []
 targets_by (Storage row) insn = access_slots row.what (written_of (places_of (Storage row)) insn) (updated_of row (places_of (Storage row)) insn)
 targets_by Hint insn = []
 targets_by Call insn = []
-targets_by (Later privilege) insn = []
+targets_by (System row) insn = slots_in (register_at insn (places_of (System row)).written)
 
 -- the registers that an instruction writes, in order
 unfoldable pub targets_of : Insn → List Slot
 targets_of insn = option_map_or (λ operation. targets_by operation insn) (slice_get operations insn.row) []
+
+-- what an instruction of the system writes of these registers: RT, if it reads one by its number
+abbrev pub asked_slots : SysOp → List Slot
+asked_slots (ReadSpr to spr) = Gpr to ∷ []
+asked_slots op = []
 
 -- the registers that an outcome writes, in order: those of its targets, of its long operation or of its access
 abbrev pub written_slots : Outcome → List Slot
 written_slots (Done targets next) = slots_of targets.items
 written_slots (Long op) = long_slots op
 written_slots (Memory op) = access_slots op.what op.to op.update
+written_slots (Asked op) = asked_slots op
 written_slots (Trapped vector cause) = []

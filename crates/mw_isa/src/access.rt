@@ -1,4 +1,5 @@
 use arrayvec::ArrayVec;
+use mw_bits::Scope;
 
 /// What an access to storage is for.
 #[derive(Clone, Copy, Debug, PartialEq, Eq)]
@@ -35,6 +36,12 @@ pub enum Deed {
         /// The block's number: its real address divided by 64.
         block: u32,
     },
+    /// Kept translations are given up.
+    Tlbie(Scope),
+    /// What was given up before is gone, and what was changed is fetched anew.
+    Sync,
+    /// Another table of translations is used.
+    NewTable,
 }
 
 /// A stretch of RAM: `len` bytes from the real address `at` on.

@@ -11,6 +11,7 @@ mod fetched;
 mod long;
 mod memory;
 mod msr;
+mod numbered;
 mod operation;
 mod outcome;
 mod pages;
@@ -27,6 +28,7 @@ mod slots;
 mod sources;
 mod special;
 mod state;
+mod system;
 mod vector;
 mod writing;
 mod xer;
@@ -39,15 +41,18 @@ pub use events::Events;
 pub use fetched::{Fetched, is_cut};
 pub use long::LongOp;
 pub use memory::{MemOp, MemWhat};
-pub use msr::{DR, EE, IR, PR, PRIVILEGED, RI, TRAP, bit_at, without_bit};
+pub use msr::{
+    DR, EE, IR, PR, PRIVILEGED, RI, TRAP, bit_at, is_open, msr_from, msr_partly_from, without_bit,
+};
+pub use numbered::{Numbered, NumberedLine, SprRefusal, Use};
 pub use operation::{
     Addend, Address, AluRow, BitLogic, BranchRow, Carry, Ending, FieldRow, Inputs, Operation,
-    PickRow, Privilege, ProductRow, QuotientRow, StorageRow, TrapRow, operation_at,
+    PickRow, Privilege, ProductRow, QuotientRow, StorageRow, SystemRow, SystemWhat, TrapRow, operation_at,
 };
 pub use outcome::{Operands, Outcome, Target};
 pub use pages::{Page, PageFault, Pages, StorageFault, Stretch, Stretches};
 pub use place::Places;
-pub use placing::{code, field, mask, operand_of, places_of, register};
+pub use placing::{code, field, mask, operand_of, places_of, register, spr};
 pub use raised::Raised;
 pub use raises::{cut_raised, decoded_raises, marked, misaligned, raising};
 pub use reading::{SlotView, operands, reads};
@@ -58,6 +63,7 @@ pub use slot_set::SlotSet;
 pub use slots::{get_slot, set_slot, set_targets};
 pub use special::{bi_of, bo_of};
 pub use state::State;
+pub use system::SysOp;
 pub use vector::Vector;
 pub use writing::{field_written, targets, updated_of, written_of};
 pub use xer::{XerBits, has_bit, xer_bits, xer_of};

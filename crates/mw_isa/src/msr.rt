@@ -1,5 +1,5 @@
 ghost use Rattle.std.specs.Prelude.{◌≡◌, ◌≤◌, ◌<◌, ◌^◌};
-ghost use Rattle.mw_isa.specs.Msr.{bit_at, without_bit};
+ghost use Rattle.mw_isa.specs.Msr.{bit_at, is_open, msr_from, msr_partly_from, with_bit, without_bit};
 
 use crate::xer::has_bit;
 
@@ -45,4 +45,46 @@ pub fn without_bit(place: u32, number: u64) -> u64
     } else {
         number
     }
+}
+
+/// A number whose bit at a place, counted from the left of 64, is 1, or 0.
+fn with_bit(set: bool, place: u32, number: u64) -> u64
+    requires { place ≤ 63 }
+    ensures { result ≡ with_bit set place number }
+{
+    if set {
+        number | bit_at(place)
+    } else {
+        without_bit(place, number)
+    }
+}
+
+/// MSR written from a source (Book III, mtmsr and return instructions): EE, IR and DR are its bit or its PR,
+/// PR and RI its own, and the rest stays. It can't fail.
+pub fn msr_from(source: u64, msr: u64) -> u64
+    ensures { result ≡ msr_from source msr }
+{
+    let problem = has_bit(source, PR);
+    let msr = with_bit(has_bit(source, RI), RI, msr);
+    let msr = with_bit(has_bit(source, DR) || problem, DR, msr);
+    let msr = with_bit(has_bit(source, IR) || problem, IR, msr);
+    let msr = with_bit(problem, PR, msr);
+    with_bit(has_bit(source, EE) || problem, EE, msr)
+}
+
+/// EE and RI of MSR alone written from a source, each from its own bit (Book III, mtmsr with L=1). It can't
+/// fail.
+pub fn msr_partly_from(source: u64, msr: u64) -> u64
+    ensures { result ≡ msr_partly_from source msr }
+{
+    let msr = with_bit(has_bit(source, RI), RI, msr);
+    with_bit(has_bit(source, EE), EE, msr)
+}
+
+/// Whether MSR lets external interrupts be taken, or addresses of instructions or data be translated. It
+/// can't fail.
+pub fn is_open(msr: u64) -> bool
+    ensures { result ≡ is_open msr }
+{
+    has_bit(msr, EE) || (has_bit(msr, IR) || has_bit(msr, DR))
 }

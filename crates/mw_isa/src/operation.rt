@@ -31,8 +31,8 @@ pub enum Operation {
     Hint,
     /// A system call.
     Call,
-    /// One that isn't built yet.
-    Later(Privilege),
+    /// One of the system.
+    System(SystemRow),
 }
 
 /// Where a row is privileged: in problem state it then raises an interrupt (Book III, privileged
@@ -277,6 +277,43 @@ pub enum Address {
     Prefixed,
 }
 
+/// A row of the system (Book II, synchronization; Book III, interrupts, registers by number, translation).
+#[derive(Clone, Copy, Debug, PartialEq, Eq)]
+pub struct SystemRow {
+    /// What it does.
+    pub what: SystemWhat,
+    /// Where it is privileged.
+    pub privilege: Privilege,
+}
+
+/// What a row of the system does.
+#[derive(Clone, Copy, Debug, PartialEq, Eq)]
+pub enum SystemWhat {
+    /// It returns from an interrupt.
+    Return {
+        /// By HSRR0 and HSRR1, and not by SRR0 and SRR1.
+        hypervisor: bool,
+    },
+    /// What is behind it is fetched anew.
+    Isync,
+    /// L: accesses are ordered, and with L 2 what was told of translations is done.
+    Sync,
+    /// Accesses or what was told of translations are ordered; on one processor that is nothing.
+    Order,
+    /// RT: the machine state register is read.
+    ReadMsr,
+    /// RS,L: it is written, with L 1 a part of it.
+    WriteMsr,
+    /// RB,RS,RIC,PRS,R: kept translations are given up.
+    Tlbie,
+    /// RT,SPR or RT,TBR: a register is read by its number.
+    ReadSpr,
+    /// SPR,RS: a register is written by its number.
+    WriteSpr,
+    /// RT,L: a random number is asked for, and there is none.
+    Random,
+}
+
 /// A row that accesses storage (Book I, fixed-point storage access instructions; Book II, cache
 /// management and atomic update).
 #[derive(Clone, Copy, Debug, PartialEq, Eq)]
@@ -514,21 +551,21 @@ static OPERATIONS: [Operation; 224] = [
     Operation::Storage(StorageRow { what: MemWhat::Icbi, len: 1, address: Address::Block, update: false, privilege: Privilege::Never }), // icbi
     Operation::Storage(StorageRow { what: MemWhat::Zero, len: 64, address: Address::Block, update: false, privilege: Privilege::Never }), // dcbz
     Operation::Call, // sc
-    Operation::Later(Privilege::Always), // rfid
-    Operation::Later(Privilege::Always), // hrfid
-    Operation::Later(Privilege::Never), // isync
-    Operation::Later(Privilege::Heavy), // sync
-    Operation::Later(Privilege::Never), // eieio
-    Operation::Later(Privilege::Always), // tlbsync
-    Operation::Later(Privilege::Always), // mfmsr
-    Operation::Later(Privilege::Always), // mtmsr
-    Operation::Later(Privilege::Always), // mtmsrd
-    Operation::Later(Privilege::Always), // tlbie
-    Operation::Later(Privilege::Always), // tlbiel
-    Operation::Later(Privilege::Never), // mfspr
-    Operation::Later(Privilege::Never), // mtspr
-    Operation::Later(Privilege::Never), // mftb
-    Operation::Later(Privilege::Never), // darn
+    Operation::System(SystemRow { what: SystemWhat::Return { hypervisor: false }, privilege: Privilege::Always }), // rfid
+    Operation::System(SystemRow { what: SystemWhat::Return { hypervisor: true }, privilege: Privilege::Always }), // hrfid
+    Operation::System(SystemRow { what: SystemWhat::Isync, privilege: Privilege::Never }), // isync
+    Operation::System(SystemRow { what: SystemWhat::Sync, privilege: Privilege::Heavy }), // sync
+    Operation::System(SystemRow { what: SystemWhat::Order, privilege: Privilege::Never }), // eieio
+    Operation::System(SystemRow { what: SystemWhat::Order, privilege: Privilege::Always }), // tlbsync
+    Operation::System(SystemRow { what: SystemWhat::ReadMsr, privilege: Privilege::Always }), // mfmsr
+    Operation::System(SystemRow { what: SystemWhat::WriteMsr, privilege: Privilege::Always }), // mtmsr
+    Operation::System(SystemRow { what: SystemWhat::WriteMsr, privilege: Privilege::Always }), // mtmsrd
+    Operation::System(SystemRow { what: SystemWhat::Tlbie, privilege: Privilege::Always }), // tlbie
+    Operation::System(SystemRow { what: SystemWhat::Tlbie, privilege: Privilege::Always }), // tlbiel
+    Operation::System(SystemRow { what: SystemWhat::ReadSpr, privilege: Privilege::Never }), // mfspr
+    Operation::System(SystemRow { what: SystemWhat::WriteSpr, privilege: Privilege::Never }), // mtspr
+    Operation::System(SystemRow { what: SystemWhat::ReadSpr, privilege: Privilege::Never }), // mftb
+    Operation::System(SystemRow { what: SystemWhat::Random, privilege: Privilege::Never }), // darn
     alu!(Paddi, Relative, NoCarry, Plain), // paddi
     Operation::Storage(StorageRow { what: MemWhat::Load { signed: false, reversed: false, reserve: false }, len: 4, address: Address::Prefixed, update: false, privilege: Privilege::Never }), // plwz
     Operation::Storage(StorageRow { what: MemWhat::Load { signed: false, reversed: false, reserve: false }, len: 1, address: Address::Prefixed, update: false, privilege: Privilege::Never }), // plbz

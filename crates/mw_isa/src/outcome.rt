@@ -1,6 +1,7 @@
 use crate::long::LongOp;
 use crate::memory::MemOp;
 use crate::slot::Slot;
+use crate::system::SysOp;
 use crate::vector::Vector;
 use arrayvec::ArrayVec;
 
@@ -50,6 +51,8 @@ pub enum Outcome {
     Long(LongOp),
     /// It accesses storage.
     Memory(MemOp),
+    /// It is one of the system's.
+    System(SysOp),
     /// It raises an interrupt.
     Trap {
         /// Which.

@@ -1,8 +1,10 @@
 ghost use Rattle.std.specs.Prelude.{◌≡◌, ◌<◌};
-ghost use Rattle.mw_isa.specs.Places.{IsRegister, access_roles, branch_roles, field_roles, fields_roles, input_roles, operand_of, pick_roles, places_in, places_of, trap_roles, with_datum};
+ghost use Rattle.mw_isa.specs.Places.{IsRegister, access_roles, branch_roles, field_roles, fields_roles, input_roles, operand_of, pick_roles, places_in, places_of, system_roles, trap_roles, with_datum};
 
 use crate::memory::MemWhat;
-use crate::operation::{Address, BranchRow, FieldRow, Inputs, Operation, PickRow, TrapRow};
+use crate::operation::{
+    Address, BranchRow, FieldRow, Inputs, Operation, PickRow, SystemWhat, TrapRow,
+};
 use crate::place::Places;
 use mw_decode::Insn;
 
@@ -183,6 +185,25 @@ fn trap_places(row: TrapRow) -> Places
     }
 }
 
+/// Where the operands of a row of the system stand.
+#[rattlefmt::skip]
+fn system_places(what: SystemWhat) -> Places
+    ensures { result ≡ places_in (system_roles what) }
+{
+    match what {
+        SystemWhat::Return { .. } => NONE,
+        SystemWhat::Isync => NONE,
+        SystemWhat::Sync => NONE,
+        SystemWhat::Order => NONE,
+        SystemWhat::ReadMsr => Places { written: Some(0), ..NONE },
+        SystemWhat::WriteMsr => Places { first: Some(0), ..NONE },
+        SystemWhat::Tlbie => Places { second: Some(0), first: Some(1), ..NONE },
+        SystemWhat::ReadSpr => Places { written: Some(0), ..NONE },
+        SystemWhat::WriteSpr => Places { first: Some(1), ..NONE },
+        SystemWhat::Random => Places { written: Some(0), ..NONE },
+    }
+}
+
 /// Where the operands of an operation stand, by what they are to it (Book I, instruction formats).
 #[inline(always)]
 pub fn places_of(operation: Operation) -> Places
@@ -200,7 +221,7 @@ pub fn places_of(operation: Operation) -> Places
         Operation::Storage(row) => access_places(row.address, row.what),
         Operation::Hint => NONE,
         Operation::Call => NONE,
-        Operation::Later(_) => NONE,
+        Operation::System(row) => system_places(row.what),
     }
 }
 
@@ -244,6 +265,14 @@ pub fn field(insn: &Insn, place: u8) -> u8
     ensures bound { result < 8 }
 {
     operand_of(insn, place) as u8
+}
+
+/// The number of a special purpose register at a place.
+pub fn spr(insn: &Insn, place: u8) -> u16
+    requires { operand_of insn.now place < 1024 }
+    ensures { result ≡ operand_of insn.now place }
+{
+    operand_of(insn, place) as u16
 }
 
 /// The mask of fields at a place.

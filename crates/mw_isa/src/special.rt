@@ -200,6 +200,6 @@ pub fn special_of(operation: Operation, insn: &Insn) -> Special
         Operation::Storage(_) => nothing(),
         Operation::Hint => nothing(),
         Operation::Call => nothing(),
-        Operation::Later(_) => nothing(),
+        Operation::System(_) => nothing(),
     }
 }

@@ -163,7 +163,7 @@ fn operation_set(operation: Operation, insn: &Insn) -> SlotSet
         ),
         Operation::Hint => SlotSet::NONE,
         Operation::Call => SlotSet::NONE,
-        Operation::Later(_) => SlotSet::NONE,
+        Operation::System(_) => only(register_at(insn, places.written)),
     }
 }
 

@@ -1,7 +1,6 @@
 ghost use Rattle.std.specs.Prelude.{◌≡◌, ◌≤◌, IfSome};
 ghost use Rattle.mw_isa.specs.Raises.{access_raises, place_raises};
-ghost use Rattle.mw_isa.specs.Step.{OnTrap, end_raises, is_built_outcome};
-ghost use Rattle.mw_isa.specs.Storage.{IsSized, OnMemory, is_aligned, is_controller, is_exclusive, is_misplaced, is_unaligned_exclusive, needs_ram, reaches_controller};
+ghost use Rattle.mw_isa.specs.Storage.{IsSized, is_aligned, is_controller, is_exclusive, is_misplaced, is_unaligned_exclusive, needs_ram, reaches_controller};
 ghost use Rattle.mw_isa.specs.Take.{IsUnmarked};
 
 use crate::address::is_in_ram;
@@ -93,27 +92,6 @@ pub fn access_raises(op: &MemOp, placed: &Result<Stretches, PageFault>) -> Optio
     }
 }
 
-/// The interrupt that an outcome raises, if it does, by itself or by its access where it stands. It can't fail.
-pub fn end_raises(
-    outcome: &Outcome,
-    placed: &Option<Result<Stretches, PageFault>>,
-) -> Option<Raised>
-    requires sized { OnMemory IsSized outcome.now }
-    requires cause { OnTrap IsUnmarked outcome.now }
-    ensures value { result ≡ end_raises outcome.now placed.now }
-    ensures cause { IfSome result (λ raised. IsUnmarked raised.cause) }
-{
-    match outcome {
-        Outcome::Done { .. } => None,
-        Outcome::Long(_) => None,
-        Outcome::Trap { vector, cause } => Some(raising(*vector, *cause)),
-        Outcome::Memory(op) => match placed {
-            None => None,
-            Some(placed) => access_raises(op, placed),
-        },
-    }
-}
-
 /// Whether a stretch has a byte in the interrupt controller.
 fn is_controller(stretch: &Stretch) -> bool
     ensures { result ≡ is_controller stretch.now }
@@ -121,29 +99,12 @@ fn is_controller(stretch: &Stretch) -> bool
     stretch.at < 0xC000_6000 && 0xC000_4000 - u64::from(stretch.len) < stretch.at
 }
 
-/// Whether an access has a byte in the interrupt controller.
-fn reaches_controller(at: &Stretches) -> bool
+/// Whether an access has a byte in the interrupt controller, from 0xC0004000 to 0xC0005FFF. It can't fail.
+pub fn reaches_controller(at: &Stretches) -> bool
     ensures { result ≡ reaches_controller at.now }
 {
     match at.second {
         None => is_controller(&at.first),
         Some(second) => is_controller(&at.first) || is_controller(&second),
-    }
-}
-
-/// Whether an outcome is built: its access, if it has one, stands in stretches of which no byte is one of the
-/// interrupt controller. It can't fail.
-pub fn is_built_outcome(outcome: &Outcome, placed: &Option<Result<Stretches, PageFault>>) -> bool
-    ensures { result ≡ is_built_outcome outcome.now placed.now }
-{
-    match outcome {
-        Outcome::Done { .. } => true,
-        Outcome::Long(_) => true,
-        Outcome::Trap { .. } => true,
-        Outcome::Memory(_) => match placed {
-            None => false,
-            Some(Err(_)) => false,
-            Some(Ok(at)) => !reaches_controller(at),
-        },
     }
 }

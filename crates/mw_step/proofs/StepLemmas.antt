@@ -13,7 +13,7 @@ use Rattle.mw_isa.specs.Raises.{Placed, cut_raised, decoded_raises, words_raise}
 use Rattle.mw_isa.specs.Reads.{operands_of}
 use Rattle.mw_isa.specs.Slots.{get_slot}
 use Rattle.mw_isa.specs.Long.{IsStarted}
-use Rattle.mw_isa.specs.Execute.{exec_of, is_built_row}
+use Rattle.mw_isa.specs.Execute.{exec_of}
 use Rattle.mw_isa.specs.Storage.{IsSized, OnMemory, IsPlaced}
 use Rattle.mw_isa.specs.Step.{IsKnown, OnLong, OnPlaced, step, marked, end_raises, placed_of, builds, is_built_outcome, state_behind}
 use Rattle.mw_isa.specs.Take.{IsCause}
@@ -66,11 +66,10 @@ prepared-words state prepared raised there whole none w r cause =
 pub record Looked (state : State) (prepared : Prepared) (operands : Operands) (raised : Option Raised) : Type 0 where
   pub there : fetched state ≡ Some prepared.words
   pub insn_is : insn_of prepared.words ≡ Some prepared.insn
-  pub row : is_built_row prepared.insn ≡ true
   pub operands_are : operands ≡ operands_of prepared.insn state.regs
   pub outcome : exec_of prepared.insn operands state.regs.cia ≡ Some prepared.outcome
   pub placed : prepared.placed ≡ placed_of prepared.outcome
-  pub raises : raised ≡ end_raises prepared.outcome prepared.placed
+  pub raises : raised ≡ end_raises prepared.outcome prepared.placed state.regs.msr
   pub marks : prepared.raised ≡ option_map (marked (Some prepared.words)) raised
   pub cause : IfSome prepared.raised (λ it. IsCause it.cause)
   pub is : IsInsn prepared.insn
@@ -100,26 +99,26 @@ looked-comes state prepared operands raised l calm = record {
     started = l.started;
     sized = l.sized;
     stands = l.stands;
-    calm = end-calm prepared.outcome prepared.placed (sym l.raises ∙ none-marked prepared.words raised (sym l.marks ∙ calm));
+    calm = end-calm prepared.outcome prepared.placed state.regs.msr (sym l.raises ∙ none-marked prepared.words raised (sym l.marks ∙ calm));
   };
 }
 
 -- whether it is built is told by what it comes to
-looked-built : (state : State) (prepared : Prepared) (operands : Operands) (raised : Option Raised) → Looked state prepared operands raised → builds state ≡ is_built_outcome prepared.outcome prepared.placed
+looked-built : (state : State) (prepared : Prepared) (operands : Operands) (raised : Option Raised) → Looked state prepared operands raised → builds state ≡ is_built_outcome prepared.outcome prepared.placed state.regs
 looked-built state prepared operands raised l =
     builds-known prepared.words prepared.insn prepared.outcome state (looked-known state prepared operands raised l)
-    ∙ ap₂ (λ (row : Bool) (place : Option Placed). row && is_built_outcome prepared.outcome place) l.row (sym l.placed)
+    ∙ ap (λ (place : Option Placed). is_built_outcome prepared.outcome place state.regs) (sym l.placed)
 
 -- and it raises what was found
 looked-trap : (state : State) (prepared : Prepared) (operands : Operands) (raised : Option Raised) → Looked state prepared operands raised → (step state).trap ≡ prepared.raised
 looked-trap state prepared operands raised l =
     trap-known prepared.words prepared.insn prepared.outcome state (looked-known state prepared operands raised l)
-    ∙ ap (λ (place : Option Placed). option_map (marked (Some prepared.words)) (end_raises prepared.outcome place)) (sym l.placed)
+    ∙ ap (λ (place : Option Placed). option_map (marked (Some prepared.words)) (end_raises prepared.outcome place state.regs.msr)) (sym l.placed)
     ∙ ap (option_map (marked (Some prepared.words))) (sym l.raises)
     ∙ sym l.marks
 
 -- what is told of an instruction that was looked at
-pub looked-prepares : (state : State) (prepared : Prepared) (operands : Operands) (raised : Option Raised) (done : Bool) → Looked state prepared operands raised → done ≡ is_built_outcome prepared.outcome prepared.placed → Prepares prepared done state
+pub looked-prepares : (state : State) (prepared : Prepared) (operands : Operands) (raised : Option Raised) (done : Bool) → Looked state prepared operands raised → done ≡ is_built_outcome prepared.outcome prepared.placed state.regs → Prepares prepared done state
 looked-prepares state prepared operands raised true l e = record {
   words = l.there;
   built = looked-built state prepared operands raised l ∙ sym e;

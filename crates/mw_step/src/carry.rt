@@ -11,6 +11,7 @@ use crate::storage::access;
 use mw_exec::next_of;
 use mw_irq::take;
 use mw_isa::{Event, Outcome, PageFault, Raised, Regs, State, Stretches, Vector, set_targets};
+use mw_sprs::carry;
 
 /// Writes what an outcome writes, where its access stands.
 fn write(outcome: &mut Outcome, placed: &Option<Result<Stretches, PageFault>>, state: &mut State)
@@ -21,6 +22,7 @@ fn write(outcome: &mut Outcome, placed: &Option<Result<Stretches, PageFault>>, s
     match outcome {
         Outcome::Done { targets, .. } => set_targets(targets.as_slice(), &mut state.regs),
         Outcome::Long(op) => finish_long(op, &mut state.regs),
+        Outcome::System(op) => carry(op, &mut state.regs, &mut state.devices),
         Outcome::Trap { .. } => {}
         Outcome::Memory(op) => match placed {
             None => {}

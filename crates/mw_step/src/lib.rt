@@ -4,6 +4,7 @@
 
 mod carry;
 mod fetch;
+mod judge;
 mod long;
 mod look;
 mod place;

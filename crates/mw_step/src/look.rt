@@ -11,12 +11,12 @@ ghost use Rattle.mw_isa.specs.Words.{insn_of};
 ghost use Rattle.mw_step.specs.Prepared.{Prepares};
 
 use crate::fetch::fetch;
+use crate::judge::{end_raises, is_built_outcome};
 use crate::place::placed_of;
 use crate::prepared::Prepared;
 use mw_decode::{decode, decode_into};
-use mw_exec::{exec_into, is_built_row};
+use mw_exec::exec_into;
 use mw_isa::{Fetched, Raised, Regs, State, cut_raised, decoded_raises, is_cut, marked, operands};
-use mw_loadstore::{end_raises, is_built_outcome};
 
 /// The interrupt that words raise which aren't cut off.
 fn words_raise(words: &Fetched, regs: &Regs) -> Option<Raised>
@@ -46,9 +46,6 @@ fn prepare_insn(state: &State, prepared: &mut Prepared) -> bool
     requires insn { IsInsn prepared.old.insn }
     ensures { Prepares prepared.new result (seen state.now) }
 {
-    if !is_built_row(&prepared.insn) {
-        return false;
-    }
     let found = operands(&prepared.insn, &state.regs, state.regs.msr);
     exec_into(
         &prepared.insn,
@@ -59,9 +56,9 @@ fn prepare_insn(state: &State, prepared: &mut Prepared) -> bool
     placed_of(&prepared.outcome, &mut prepared.placed);
     prepared.raised = marked_if(
         &prepared.words,
-        end_raises(&prepared.outcome, &prepared.placed),
+        end_raises(&prepared.outcome, &prepared.placed, state.regs.msr),
     );
-    is_built_outcome(&prepared.outcome, &prepared.placed)
+    is_built_outcome(&prepared.outcome, &prepared.placed, &state.regs)
 }
 
 /// What is known of the next instruction before anything changes: its words, the interrupt that it raises, if

@@ -47,6 +47,7 @@ pub fn placed_of(outcome: &Outcome, placed: &mut Option<Result<Stretches, PageFa
     match outcome {
         Outcome::Done { .. } => *placed = None,
         Outcome::Long(_) => *placed = None,
+        Outcome::System(_) => *placed = None,
         Outcome::Trap { .. } => *placed = None,
         Outcome::Memory(op) => *placed = Some(stretches_of(&pages_of(op))),
     }

@@ -1,18 +1,12 @@
-use Rattle.std.proofs.Common.{sym}
 use Rattle.mw_isa.specs.State.{seen}
-use Rattle.mw_isa.proofs.StepLaws.{builds-not}
 use Rattle.mw_step.proofs.StepLemmas.{looked-prepares}
 use Rattle.mw_step.proofs.look.prepare_insn.Goals as goal
-
-pub returns-then-not-is_built_row : goal.returns-then-not-is_built_row
-returns-then-not-is_built_row c = builds-not c.args.prepared.now.words c.args.prepared.now.insn (seen c.args.state.now) c.requires.words c.requires.is (sym c.if-not-is_built_row.ensures)
 
 pub returns : goal.returns
 returns c =
     looked-prepares (seen c.args.state.now) (record { words = c.args.prepared.now.words; insn = c.args.prepared.now.insn; outcome = c.exec_into.new.outcome; placed = c.placed_of.new.placed; raised = c.marked_if-prepared.result }) c.operands-found.result c.end_raises.result c.is_built_outcome.result (record {
       there = c.requires.words;
       insn_is = c.requires.is;
-      row = sym c.if-not-is_built_row.ensures;
       operands_are = c.operands-found.ensures;
       outcome = c.exec_into.ensures.outcome;
       placed = c.placed_of.ensures.value;
