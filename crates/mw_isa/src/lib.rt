@@ -11,6 +11,7 @@ mod fetched;
 mod long;
 mod memory;
 mod msr;
+mod numbered;
 mod operation;
 mod outcome;
 mod pages;
@@ -40,6 +41,7 @@ pub use fetched::{Fetched, is_cut};
 pub use long::LongOp;
 pub use memory::{MemOp, MemWhat};
 pub use msr::{DR, EE, IR, PR, PRIVILEGED, RI, TRAP, bit_at, without_bit};
+pub use numbered::{Numbered, NumberedLine, SprRefusal, Use};
 pub use operation::{
     Addend, Address, AluRow, BitLogic, BranchRow, Carry, Ending, FieldRow, Inputs, Operation,
     PickRow, Privilege, ProductRow, QuotientRow, StorageRow, TrapRow, operation_at,
