@@ -1,5 +1,5 @@
 ghost use Rattle.std.specs.Prelude.{◌≡◌, slice_index};
-ghost use Rattle.mw_isa.specs.Sprs.{content_of, devices_with, regs_with};
+ghost use Rattle.mw_isa.specs.Sprs.{content_of, devices_with, low_word, regs_with};
 
 use mw_bits::sext;
 use mw_isa::{Numbered, Regs, xer_bits, xer_of};
@@ -43,6 +43,13 @@ pub fn content_of(register: Numbered, regs: &Regs, devices: &Devices) -> u64
     }
 }
 
+/// The low 32 bits of a number.
+fn low_word(value: u64) -> u32
+    ensures { result ≡ low_word value }
+{
+    (value % 0x1_0000_0000) as u32
+}
+
 /// Writes a value to a register: XER keeps its five bits, and one of 32 bits takes the low word.
 pub fn set_content(register: Numbered, value: u64, regs: &mut Regs, devices: &mut Devices)
     ensures regs { regs.new ≡ regs_with register value regs.old }
@@ -52,12 +59,12 @@ pub fn set_content(register: Numbered, value: u64, regs: &mut Regs, devices: &mu
         Numbered::Xer => regs.xer = xer_of(xer_bits(value)),
         Numbered::Lr => regs.lr = value,
         Numbered::Ctr => regs.ctr = value,
-        Numbered::Dsisr => regs.dsisr = value as u32,
+        Numbered::Dsisr => regs.dsisr = low_word(value),
         Numbered::Dar => regs.dar = value,
-        Numbered::Dec => devices.set_dec(value as u32),
+        Numbered::Dec => devices.set_dec(low_word(value)),
         Numbered::Srr0 => regs.srr0 = value,
         Numbered::Srr1 => regs.srr1 = value,
-        Numbered::Pidr => regs.pidr = value as u32,
+        Numbered::Pidr => regs.pidr = low_word(value),
         Numbered::Sprg(place) => {
             if place < 4 {
                 regs.sprg[usize::from(place)] = value;

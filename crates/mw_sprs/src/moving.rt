@@ -56,8 +56,8 @@ pub fn write(regs: &mut Regs, devices: &mut Devices, spr: u16, value: u64) -> Re
     ensures refusal { result_err result ≡ refusal_of Write spr (is_problem regs.old) }
     ensures written { IfOk result (λ done. write_of spr value regs.old devices.old.devices ≡ Ok (held regs.new devices.new.devices)) }
     ensures refused { IfErr result (λ refusal. write_of spr value regs.old devices.old.devices ≡ Err refusal) }
-    ensures left_regs { OnErr result (regs.new ≡ regs.old) }
-    ensures left_devices { OnErr result (devices.new ≡ devices.old) }
+    ensures regs_stay { OnErr result (regs.new ≡ regs.old) }
+    ensures devices_stay { OnErr result (devices.new ≡ devices.old) }
     ensures room { devices.new.room ≡ devices.old.room }
 {
     match write_refusal(regs, spr) {
