@@ -12,6 +12,8 @@ mod loadstore;
 #[cfg(test)]
 mod runs;
 #[cfg(test)]
+mod sprs;
+#[cfg(test)]
 mod storage;
 #[cfg(test)]
 mod stretches;

@@ -11,6 +11,7 @@ pub mod Slots
 pub mod Places
 pub mod Endings
 pub mod Xer
+pub mod Sprs
 pub mod Condition
 pub mod Branches
 pub mod Special

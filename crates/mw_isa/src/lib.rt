@@ -42,7 +42,7 @@ pub use fetched::{Fetched, is_cut};
 pub use long::LongOp;
 pub use memory::{MemOp, MemWhat};
 pub use msr::{
-    DR, EE, IR, PR, PRIVILEGED, RI, TRAP, bit_at, is_open, msr_from, msr_partly_from, without_bit,
+    DR, EE, ILLEGAL, IR, PR, PRIVILEGED, RI, TRAP, bit_at, is_open, msr_from, msr_partly_from, without_bit,
 };
 pub use numbered::{Numbered, NumberedLine, SprRefusal, Use};
 pub use operation::{
