@@ -1,7 +1,7 @@
 ghost use Rattle.mw_decode.specs.Decode.{OnInsn, IsInsn};
 
 use mw_decode::{Decoded, decode, is_prefix};
-use mw_exec::{exec, is_built_row};
+use mw_exec::exec;
 use mw_isa::{Operands, Outcome, Slot, Target, Vector};
 
 /// What a word is, with this suffix where it is a prefix.
@@ -35,13 +35,7 @@ fn outcome_in(msr: u64, word: u32, suffix: u32, [a, b]: [u64; 2], cia: u64) -> O
         msr,
     };
     match decoded(word, suffix) {
-        Decoded::Insn(insn) => {
-            if is_built_row(&insn) {
-                Some(exec(&insn, &operands, cia))
-            } else {
-                None
-            }
-        }
+        Decoded::Insn(insn) => Some(exec(&insn, &operands, cia)),
         Decoded::Unavailable(_) => None,
         Decoded::Alignment { .. } => None,
         Decoded::Illegal => None,
@@ -100,6 +94,7 @@ fn instructions_come_to_what_they_should(rt: HostRuntime) {
             }
             Some(Outcome::Memory(_)) => panic!(rt; "{word:x} is an access"),
             Some(Outcome::Long(_)) => panic!(rt; "{word:x} is a product or quotient"),
+            Some(Outcome::System(_)) => panic!(rt; "{word:x} is of the system"),
             Some(Outcome::Trap { .. }) => panic!(rt; "{word:x} raises an interrupt"),
             None => panic!(rt; "{word:x} is no instruction"),
         }
@@ -112,6 +107,7 @@ fn instructions_come_to_what_they_should(rt: HostRuntime) {
             }
             Some(Outcome::Memory(_)) => panic!(rt; "{word:x} is an access"),
             Some(Outcome::Long(_)) => panic!(rt; "{word:x} is a product or quotient"),
+            Some(Outcome::System(_)) => panic!(rt; "{word:x} is of the system"),
             Some(Outcome::Trap { .. }) => panic!(rt; "{word:x} raises an interrupt"),
             None => panic!(rt; "{word:x} is no instruction"),
         }
@@ -142,6 +138,7 @@ fn a_trap_has_its_cause(rt: HostRuntime) {
             Some(Outcome::Done { .. }) => panic!(rt; "{word:x} is done"),
             Some(Outcome::Memory(_)) => panic!(rt; "{word:x} is an access"),
             Some(Outcome::Long(_)) => panic!(rt; "{word:x} is a product or quotient"),
+            Some(Outcome::System(_)) => panic!(rt; "{word:x} is of the system"),
             None => panic!(rt; "{word:x} is no instruction"),
         }
     }
@@ -165,6 +162,15 @@ fn privileged_rows_are_refused_in_problem_state(rt: HostRuntime) {
     for word in [
         0x7c60_262a, // lwzcix r3,0,r4
         0x7c60_272a, // stwcix r3,0,r4
+        0x4c00_0024, // rfid
+        0x4c00_0224, // hrfid
+        0x7c40_04ac, // sync 2
+        0x7c00_046c, // tlbsync
+        0x7c60_00a6, // mfmsr r3
+        0x7c60_0124, // mtmsr r3,0
+        0x7c60_0164, // mtmsrd r3,0
+        0x7c80_1a64, // tlbie r3,r4,0,0,0
+        0x7c80_1a24, // tlbiel r3,r4,0,0,0
     ] {
         assert!(rt;
             is_refused(outcome_in(problem, word, 0, [0, 8], 0)),
@@ -175,6 +181,16 @@ fn privileged_rows_are_refused_in_problem_state(rt: HostRuntime) {
             "{word:x}"
         );
     }
-    // lwzx r3,0,r4 is not privileged
-    assert!(rt; !is_refused(outcome_in(problem, 0x7c60_202e, 0, [0, 8], 0)));
+    for word in [
+        0x7c60_202e, // lwzx r3,0,r4
+        0x7c00_04ac, // sync 0
+        0x7c20_04ac, // sync 1
+        0x7c60_04ac, // sync 3
+        0x7c00_06ac, // eieio
+        0x4c00_012c, // isync
+        0x7c68_02a6, // mfspr r3,8
+        0x7c60_05e6, // darn r3,0
+    ] {
+        assert!(rt; !is_refused(outcome_in(problem, word, 0, [0, 8], 0)), "{word:x}");
+    }
 }

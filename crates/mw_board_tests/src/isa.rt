@@ -1,7 +1,7 @@
 use mw_alu::AluOp;
 use mw_isa::{
     AluRow, BranchRow, Carry, Ending, Event, Events, FieldRow, Inputs, Operation, PickRow,
-    Privilege, Regs, TrapRow, Vector, operation_at,
+    Privilege, Regs, SystemRow, SystemWhat, TrapRow, Vector, operation_at,
 };
 use mw_tables::row_at;
 use std::test::Fail;
@@ -14,6 +14,11 @@ fn alu(op: AluOp, inputs: Inputs) -> Operation {
         carry: Carry::NoCarry,
         ending: Ending::Plain,
     })
+}
+
+/// A row of the system.
+fn system(what: SystemWhat, privilege: Privilege) -> Operation {
+    Operation::System(SystemRow { what, privilege })
 }
 
 #[test]
@@ -57,8 +62,8 @@ fn operations_go_by_the_table(rt: HostRuntime) {
         (114, Operation::Trap(TrapRow::TrapRegister { long: false })),
         (116, Operation::Pick(PickRow::Select)),
         (196, Operation::Call),
-        (197, Operation::Later(Privilege::Always)),
-        (200, Operation::Later(Privilege::Heavy)),
+        (197, system(SystemWhat::Return { hypervisor: false }, Privilege::Always)),
+        (200, system(SystemWhat::Sync, Privilege::Heavy)),
         (212, alu(AluOp::Paddi, Inputs::Relative)),
         (223, Operation::Hint),
     ] {

@@ -54,29 +54,12 @@ fn a_run_has_an_event_a_cycle(rt: HostRuntime) -> Result<(), Fail> {
 /// The words of an image, a number of cycles, and why there is no run.
 struct Refused(&'static [u32], u64, RunFault);
 
-/// The first instruction isn't built.
-const AT_ONCE: RunFault = RunFault::Unbuilt { cycle: 0, cia: 0 };
-
 #[rattlefmt::skip]
-static REFUSED: [Refused; 18] = [
-    Refused(&[0x3860_0005, 0x7c00_04ac], 2, RunFault::Unbuilt { cycle: 1, cia: 4 }), // addi r3,0,5; sync 0
-    Refused(&[0x4800_0008, 0, 0x7c7a_03a6], 9, RunFault::Unbuilt { cycle: 1, cia: 8 }), // b 8, mtspr 26,r3
-    Refused(&[0x0600_0000, 0x9060_0041, 0x4c00_0024], 3, RunFault::Unbuilt { cycle: 1, cia: 8 }), // pstw; rfid
-    Refused(&[0x4c00_0024], 1, AT_ONCE), // rfid
-    Refused(&[0x4c00_0224], 1, AT_ONCE), // hrfid
-    Refused(&[0x4c00_012c], 1, AT_ONCE), // isync
-    Refused(&[0x7c00_04ac], 1, AT_ONCE), // sync 0
-    Refused(&[0x7c40_04ac], 1, AT_ONCE), // sync 2
-    Refused(&[0x7c00_06ac], 1, AT_ONCE), // eieio
-    Refused(&[0x7c00_046c], 1, AT_ONCE), // tlbsync
-    Refused(&[0x7c60_00a6], 1, AT_ONCE), // mfmsr r3
-    Refused(&[0x7c60_0124], 1, AT_ONCE), // mtmsr r3,0
-    Refused(&[0x7c60_0164], 1, AT_ONCE), // mtmsrd r3,0
-    Refused(&[0x7c00_1a64], 1, AT_ONCE), // tlbie r3,r0,0,0,0
-    Refused(&[0x7c00_1a24], 1, AT_ONCE), // tlbiel r3,r0,0,0,0
-    Refused(&[0x7c68_02a6], 1, AT_ONCE), // mfspr r3,8
-    Refused(&[0x7c6c_42e6], 1, AT_ONCE), // mftb r3,268
-    Refused(&[0x7c60_05e6], 1, AT_ONCE), // darn r3,0
+static REFUSED: [Refused; 4] = [
+    Refused(&[0x3880_0020, 0x7c80_0164], 2, RunFault::Unbuilt { cycle: 1, cia: 4 }), // li r4,0x20; mtmsrd r4,0
+    Refused(&[0x3880_0010, 0x4800_0008, 0, 0x7c80_0124], 9, RunFault::Unbuilt { cycle: 2, cia: 12 }), // li r4,0x10; b 12; mtmsr r4,0
+    Refused(&[0x0600_0000, 0x3880_8000, 0x7c81_0164], 3, RunFault::Unbuilt { cycle: 1, cia: 8 }), // paddi r4,0,0x8000; mtmsrd r4,1
+    Refused(&[0x3c60_c000, 0x5463_003e, 0x6063_4000, 0x8883_0000], 9, RunFault::Unbuilt { cycle: 3, cia: 12 }), // lis r3,-0x4000; rlwinm r3,r3,0,0,31; ori r3,r3,0x4000; lbz r4,0(r3)
 ];
 
 #[test]

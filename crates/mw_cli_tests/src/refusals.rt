@@ -1,16 +1,13 @@
-use crate::shared::{LOOP, SYNC, words_of};
+use crate::shared::{LOOP, OPENING, words_of};
 use mw_cli::{Status, mw_main};
 use mw_io::{MemHost, RealHost, SureSink};
 use std::test::Fail;
-
-/// `rfid`, which isn't built.
-const RETURN: &[u8] = b"\x24\x00\x00\x4c";
 
 /// Words, the image that they name, and what is answered and said.
 struct Refused(&'static str, &'static [u8], Status, &'static str);
 
 #[rattlefmt::skip]
-static REFUSED: [Refused; 31] = [
+static REFUSED: [Refused; 30] = [
     Refused("", LOOP, Status::Usage, "mw: usage\n"),
     Refused("run", LOOP, Status::Usage, "mw: usage\n"),
     Refused("run img", LOOP, Status::Usage, "mw: usage\n"),
@@ -39,9 +36,8 @@ static REFUSED: [Refused; 31] = [
     Refused("asm absent", b"", Status::ReadFault, "mw: cannot read absent\n"),
     Refused("dis absent", LOOP, Status::ReadFault, "mw: cannot read absent\n"),
     Refused("asm img", b"frob r3\n", Status::BadInput, "mw: img:1:1: bad input\n"),
-    Refused("run img --cycles 5", RETURN, Status::Unbuilt, "mw: unbuilt at 0000000000000000\n"),
-    Refused("run img --cycles 2", SYNC, Status::Unbuilt, "mw: unbuilt at 0000000000000004\n"),
-    Refused("run img --cycles 1", RETURN, Status::Unbuilt, "mw: unbuilt at 0000000000000000\n"),
+    Refused("run img --cycles 5", OPENING, Status::Unbuilt, "mw: unbuilt at 0000000000000004\n"),
+    Refused("run img --cycles 2", OPENING, Status::Unbuilt, "mw: unbuilt at 0000000000000004\n"),
 ];
 
 #[test]

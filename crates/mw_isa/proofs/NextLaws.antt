@@ -17,7 +17,7 @@ use Rattle.mw_isa.specs.declared.operation.SystemWhat.TheVariants.{Return, Isync
 use Rattle.mw_isa.specs.declared.place.Places.{Places}
 use Rattle.mw_isa.specs.declared.outcome.Operands.{Operands}
 use Rattle.mw_isa.specs.declared.outcome.Outcome.{Outcome}
-use Rattle.mw_isa.specs.declared.outcome.Outcome.TheVariants.{Long, Memory, Trap as Trapped}
+use Rattle.mw_isa.specs.declared.outcome.Outcome.TheVariants.{Memory, Trap as Trapped}
 use Rattle.mw_isa.specs.declared.regs.Regs.{Regs}
 use Rattle.mw_isa.specs.declared.slot.Slot.{Slot}
 use Rattle.mw_isa.specs.declared.slot.Slot.TheVariants.{Gpr, CrField, Xer, Lr, Ctr}
@@ -25,7 +25,7 @@ use Rattle.mw_isa.specs.declared.vector.Vector.TheVariants.{Program}
 use Rattle.mw_isa.specs.Branches.{count_of, falls, is_taken, word_address}
 use Rattle.mw_isa.specs.Condition.{cr_bit}
 use Rattle.mw_isa.specs.Endings.{slot_if, writes_field, writes_xer}
-use Rattle.mw_isa.specs.Execute.{access_of, arithmetic_of, behind_insn, branch_of, branch_to, call, effect_of, exec_of, field_of, fields_of, goal_of, is_refused, pick_of, refusal, storage_of, system_effect, target_of, trap_of, traps, updated_of, written_of}
+use Rattle.mw_isa.specs.Execute.{access_of, behind_insn, branch_to, effect_of, exec_of, goal_of, is_refused, refusal, system_effect, target_of, traps, updated_of, written_of}
 use Rattle.mw_isa.specs.Fetch.{behind}
 use Rattle.mw_isa.specs.Msr.{bit_at, trap_place}
 use Rattle.mw_isa.specs.Operations.{operations}

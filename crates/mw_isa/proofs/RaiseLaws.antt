@@ -8,7 +8,6 @@ use Rattle.mw_isa.specs.declared.operation.Operation.{Operation}
 use Rattle.mw_isa.specs.declared.operation.Operation.TheVariants.{Alu, Product, Quotient, Branch, Field, Fields, Pick, Trap, Storage, Hint, Call, System}
 use Rattle.mw_isa.specs.declared.operation.Privilege.{Privilege}
 use Rattle.mw_isa.specs.declared.operation.Privilege.TheVariants.{Never, Always, Heavy}
-use Rattle.mw_isa.specs.declared.operation.SystemRow.{SystemRow}
 use Rattle.mw_isa.specs.declared.operation.SystemWhat.{SystemWhat}
 use Rattle.mw_isa.specs.declared.operation.SystemWhat.TheVariants.{Return, Isync, Sync, Order, ReadMsr, WriteMsr, Tlbie, ReadSpr, WriteSpr, Random}
 use Rattle.mw_isa.specs.declared.place.Places.{Places}
@@ -18,7 +17,7 @@ use Rattle.mw_isa.specs.declared.outcome.Outcome.TheVariants.{Done, Long, Memory
 use Rattle.mw_isa.specs.declared.memory.MemOp.{MemOp}
 use Rattle.mw_isa.specs.declared.pages.Stretches.{Stretches}
 use Rattle.mw_isa.specs.declared.slot.Slot.{Slot}
-use Rattle.mw_isa.specs.Execute.{access_of, arithmetic_of, behind_insn, branch_of, branch_to, can_raise, effect_of, exec_of, field_of, fields_of, is_ever, is_refused, pick_of, product_by, quotient_by, refusal, storage_of, system_effect, wrapped_sum}
+use Rattle.mw_isa.specs.Execute.{access_of, can_raise, effect_of, exec_of, is_ever, is_refused, refusal, system_effect, wrapped_sum}
 use Rattle.mw_isa.specs.Operations.{operations}
 use Rattle.mw_isa.specs.Raises.{Placed, access_raises, decoded_raises, misaligned, misaligned_if, outcome_raises, untried}
 use Rattle.mw_isa.specs.Pages.{touches_of}

@@ -1,5 +1,5 @@
 -- What an instruction reads and writes of the registers, known from the instruction alone.
-use Rattle.std.proofs.Common.{◌≡◌, ℕ, zero, suc, ◌+◌, ◌*◌, ◌%◌, ◌^◌, ◌<◌, ◌≤◌, arith, Bool, true, false, cond, List, [], ◌∷◌, ◌++◌, Option, Some, None, option_and_then, option_map, slice_get, refl, sym, ap, ap₂, ◌∙◌}
+use Rattle.std.proofs.Common.{◌≡◌, ℕ, zero, suc, ◌+◌, ◌*◌, ◌%◌, ◌^◌, ◌<◌, ◌≤◌, arith, Bool, true, false, cond, List, [], ◌∷◌, ◌++◌, Option, Some, None, option_map, slice_get, refl, sym, ap, ap₂, ◌∙◌}
 use Rattle.std.specs.Option.{option_map_or}
 use Rattle.std.proofs.lemmas.List.{map-append}
 use Rattle.std.proofs.lemmas.Nat.{pow-add}
@@ -17,7 +17,7 @@ use Rattle.mw_isa.specs.declared.outcome.Target.{Target}
 use Rattle.mw_isa.specs.declared.long.LongOp.{LongOp}
 use Rattle.mw_isa.specs.declared.long.LongOp.TheVariants.{Mul, Div}
 use Rattle.mw_isa.specs.declared.outcome.Outcome.{Outcome}
-use Rattle.mw_isa.specs.declared.outcome.Outcome.TheVariants.{Long, Memory, Trap as Trapped}
+use Rattle.mw_isa.specs.declared.outcome.Outcome.TheVariants.{Memory, Trap as Trapped}
 use Rattle.mw_isa.specs.declared.place.Places.{Places}
 use Rattle.mw_isa.specs.declared.slot.Slot.{Slot}
 use Rattle.mw_isa.specs.declared.slot.Slot.TheVariants.{Gpr, CrField, Xer, Lr, Ctr, Tar}
@@ -34,7 +34,7 @@ use Rattle.mw_isa.specs.Storage.{access_targets, update_targets}
 use Rattle.mw_isa.specs.declared.operation.SystemRow.{SystemRow}
 use Rattle.mw_isa.specs.declared.operation.SystemWhat.{SystemWhat}
 use Rattle.mw_isa.specs.declared.operation.SystemWhat.TheVariants.{Return, Isync, Sync, Order, ReadMsr, WriteMsr, Tlbie, ReadSpr, WriteSpr, Random}
-use Rattle.mw_isa.specs.Execute.{call, system_effect, access_of, is_refused, refusal, end_with, ended, out_of, effect_of, arithmetic_of, product_by, quotient_by, branch_of, count_target, link_target, field_of, field_targets, fields_of, pick_of, picked_of, result_at, trap_of, traps, storage_of, branch_to, behind_insn, exec_of}
+use Rattle.mw_isa.specs.Execute.{call, system_effect, access_of, is_refused, refusal, end_with, ended, out_of, effect_of, count_target, link_target, field_targets, picked_of, result_at, traps, branch_to, behind_insn, exec_of}
 use Rattle.mw_isa.specs.Finish.{bits_behind, finished}
 use Rattle.mw_isa.specs.Msr.{bit_at, trap_place}
 use Rattle.mw_isa.specs.Operations.{operations}

@@ -1,7 +1,6 @@
 -- What a step is, from its parts.
 use Rattle.std.proofs.Common.{◌≡◌, ℕ, Bool, true, false, not, ◌&&◌, Option, Some, None, Ok, Err, option_map, option_and_then, is_some, if◌then◌else◌, refl, ap, ap₂, ◌∙◌, eq-eqb, cond}
 use Rattle.mw_decode.specs.declared.insn.Insn.{Insn}
-use Rattle.std.specs.Option.{option_map_or}
 use Rattle.mw_decode.specs.declared.insn.Decoded.{Decoded}
 use Rattle.mw_decode.specs.declared.insn.Decoded.TheVariants.{Insn as Is, Unavailable, Alignment, Illegal}
 use Rattle.mw_isa.specs.declared.event.Event.TheVariants.{Retire, Trap as Trapped}

@@ -24,7 +24,6 @@ pub mod Finish
 pub mod Targets
 pub mod Storage
 pub mod Raises
-pub mod Sprs
 pub mod System
 pub mod Take
 pub mod Step

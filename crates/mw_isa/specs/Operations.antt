@@ -26,6 +26,7 @@ use Rattle.mw_isa.specs.declared.operation.BitLogic.TheVariants.{Crnor, Crandc, 
 use Rattle.mw_isa.specs.declared.operation.PickRow.TheVariants.{Select, All, Chosen, Sign, Bit}
 use Rattle.mw_isa.specs.declared.operation.TrapRow.TheVariants.{TrapNumber, TrapRegister}
 use Rattle.mw_isa.specs.declared.operation.Address.TheVariants.{Displaced, Indexed, Block, Prefixed}
+use Rattle.mw_isa.specs.declared.operation.Privilege.{Privilege}
 use Rattle.mw_isa.specs.declared.operation.Privilege.TheVariants.{Never, Always, Heavy}
 use Rattle.mw_isa.specs.declared.operation.StorageRow.{StorageRow}
 use Rattle.mw_isa.specs.declared.operation.SystemWhat.{SystemWhat}

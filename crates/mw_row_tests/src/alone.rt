@@ -27,12 +27,6 @@ pub fn lay(state: &mut State, word: u32, suffix: u32, cia: u32) {
     state.regs.cia = at;
 }
 
-/// Whether the next instruction is built.
-pub fn is_built(state: &State) -> bool {
-    let mut prepared = Prepared::new();
-    prepare(state, &mut prepared)
-}
-
 /// Carries out the next instruction; whether it retired.
 pub fn retires(state: &mut State) -> bool {
     let mut prepared = Prepared::new();

@@ -22,6 +22,8 @@ mod rotates;
 #[cfg(test)]
 mod sums;
 #[cfg(test)]
+mod system;
+#[cfg(test)]
 mod traps;
 #[cfg(test)]
 mod units;

@@ -1,4 +1,4 @@
-use crate::alone::{OTHER, first, is_built, lay, retires};
+use crate::alone::{OTHER, first, lay, retires};
 use std::test::Fail;
 
 // The words are LLVM's; the values are worked out from the manual's text.
@@ -316,26 +316,6 @@ static NUMBERS: [Row; 155] = [
     Row(0x0f83_ffff, [1, OTHER], true), // twi 28,r3,-1
 ];
 
-/// Each row of the system that isn't built.
-#[rattlefmt::skip]
-static UNBUILT: [u32; 15] = [
-    0x4c00_0024, // rfid
-    0x4c00_0224, // hrfid
-    0x4c00_012c, // isync
-    0x7c00_04ac, // sync 0
-    0x7c00_06ac, // eieio
-    0x7c00_046c, // tlbsync
-    0x7c60_00a6, // mfmsr r3
-    0x7c60_0124, // mtmsr r3,0
-    0x7c60_0164, // mtmsrd r3,0
-    0x7c60_2264, // tlbie r4,r3,0,0,0
-    0x7c60_2224, // tlbiel r4,r3,0,0,0
-    0x7c61_02a6, // mfspr r3,1
-    0x7c61_03a6, // mtspr 1,r3
-    0x7c6c_42e6, // mftb r3,268
-    0x7c60_05e6, // darn r3,0
-];
-
 #[test]
 fn traps_hold_where_they_should(rt: HostRuntime) -> Result<(), Fail> {
     let mut state = first(rt.alloc())?;
@@ -359,16 +339,6 @@ fn traps_hold_where_they_should(rt: HostRuntime) -> Result<(), Fail> {
             assert_eq!(rt; [regs.gpr[3], regs.gpr[4]], [*third, *fourth], "{word:08x}");
             assert_eq!(rt; [regs.cr, 0], [0, 0], "CR of {word:08x}");
         }
-    }
-    Ok(())
-}
-
-#[test]
-fn rows_of_the_system_are_not_built(rt: HostRuntime) -> Result<(), Fail> {
-    let mut state = first(rt.alloc())?;
-    for word in &UNBUILT {
-        lay(&mut state, *word, 0, 0x1000);
-        assert!(rt; !is_built(&state), "{word:08x}");
     }
     Ok(())
 }

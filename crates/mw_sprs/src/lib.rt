@@ -1,8 +1,11 @@
-//! Registers by number: what one holds, what a write leaves, and which use of a number is refused.
+//! Registers by number: what one holds, what a write leaves, and which use of a number is refused; and what the
+//! instructions of the system do to registers and devices.
 #![tactic(auto)]
 
 mod content;
 mod moving;
 mod numbers;
+mod system;
 
 pub use moving::{read, write, write_refusal};
+pub use system::{carry, system_opens, system_raises};
