@@ -26,9 +26,10 @@ fn content_at(regs: &Regs, devices: &Devices, spr: u16) -> Option<u64>
 }
 
 /// Reads a register by its number (Book III, special purpose registers): `None` where that is no
-/// operation. The time base is in cycles; the decrementer is extended with its sign from 32 bits. The errors
-/// are `Privileged`, of a number with the bit 0x10 in problem state, and `Illegal`, of one outside the list, in
-/// problem state or where it is 0, 4, 5 or 6. The devices stand at the cycle of the read.
+/// operation, as it is of 808 to 811 in every state. The time base is in cycles; the decrementer is extended
+/// with its sign from 32 bits. The errors are `Privileged`, of a number with the bit 0x10 in problem state,
+/// and `Illegal`, of another outside the list, in problem state or where it is 0, 4, 5 or 6. The devices stand
+/// at the cycle of the read.
 #[tactic(auto, unfolding(mw_isa::specs::Sprs::read_of))]
 pub fn read(regs: &Regs, devices: &Devices, spr: u16) -> Result<Option<u64>, SprRefusal>
     ensures { result ≡ read_of spr regs.now devices.now.devices }
@@ -48,9 +49,10 @@ pub fn write_refusal(regs: &Regs, spr: u16) -> Option<SprRefusal>
 }
 
 /// Writes a register by its number (Book III, special purpose registers): XER keeps its five bits, and a
-/// register of 32 bits takes the low word. A write that is no operation changes nothing. The errors are
-/// `Privileged`, of a number with the bit 0x10 in problem state, and `Illegal`, of one outside the list, in
-/// problem state or where it is 0; nothing changes then. The devices stand at the cycle of the write.
+/// register of 32 bits takes the low word. A write that is no operation changes nothing, as one of 808 to 811
+/// in every state. The errors are `Privileged`, of a number with the bit 0x10 in problem state, and `Illegal`,
+/// of another outside the list, in problem state or where it is 0; nothing changes then. The devices stand at
+/// the cycle of the write.
 #[tactic(auto, unfolding(mw_isa::specs::Sprs::write_of))]
 pub fn write(regs: &mut Regs, devices: &mut Devices, spr: u16, value: u64) -> Result<(), SprRefusal>
     ensures refusal { result_err result ≡ refusal_of Write spr (is_problem regs.old) }
@@ -60,13 +62,11 @@ pub fn write(regs: &mut Regs, devices: &mut Devices, spr: u16, value: u64) -> Re
     ensures devices_stay { OnErr result (devices.new ≡ devices.old) }
     ensures room { devices.new.room ≡ devices.old.room }
 {
-    match write_refusal(regs, spr) {
-        Some(refusal) => Err(refusal),
-        None => {
-            if let Some(register) = register_for(Use::Write, spr) {
-                set_content(register, value, regs, devices);
-            }
-            Ok(())
-        }
+    if let Some(refusal) = write_refusal(regs, spr) {
+        return Err(refusal);
     }
+    if let Some(register) = register_for(Use::Write, spr) {
+        set_content(register, value, regs, devices);
+    }
+    Ok(())
 }
