@@ -5,6 +5,7 @@ pub mod RowLaws
 pub mod ReadLaws
 pub mod NextLaws
 pub mod RaiseLaws
+pub mod KeepLaws
 pub mod LongLaws
 pub mod StepLaws
 pub mod ReplayLaws

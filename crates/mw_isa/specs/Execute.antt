@@ -39,6 +39,8 @@ use Rattle.mw_isa.specs.declared.operation.PickRow.TheVariants.{Select, All, Cho
 use Rattle.mw_isa.specs.declared.operation.TrapRow.{TrapRow}
 use Rattle.mw_isa.specs.declared.operation.TrapRow.TheVariants.{TrapNumber, TrapRegister}
 use Rattle.mw_isa.specs.declared.memory.MemOp.{MemOp}
+use Rattle.mw_isa.specs.declared.memory.MemWhat.{MemWhat}
+use Rattle.mw_isa.specs.declared.memory.MemWhat.TheVariants.{Store, Conditional, Zero, Icbi}
 use Rattle.mw_isa.specs.declared.outcome.Operands.{Operands}
 use Rattle.mw_isa.specs.declared.outcome.Outcome.{Outcome}
 use Rattle.mw_isa.specs.declared.outcome.Outcome.TheVariants.{Done, Long, Memory, System as Asked, Trap as Trapped}
@@ -400,3 +402,39 @@ can_raise (Storage row) = is_ever row.privilege
 can_raise Call = true
 can_raise (System row) = is_ever row.privilege
 can_raise operation = false
+
+-- what a row of the system does goes for all that is behind it: nothing behind is begun before it is done
+abbrev pub is_serializing_by : SystemWhat → Bool
+is_serializing_by (Return hypervisor) = true
+is_serializing_by Isync = true
+is_serializing_by Sync = true
+is_serializing_by Order = false
+is_serializing_by ReadMsr = false
+is_serializing_by WriteMsr = true
+is_serializing_by Tlbie = true
+is_serializing_by ReadSpr = false
+is_serializing_by WriteSpr = true
+is_serializing_by Random = false
+
+-- an access gives up a copy among the instructions
+abbrev pub is_icbi : MemWhat → Bool
+is_icbi Icbi = true
+is_icbi what = false
+
+-- an operation is such a one
+abbrev pub is_serializing : Operation → Bool
+is_serializing (Storage row) = is_icbi row.what
+is_serializing (System row) = is_serializing_by row.what
+is_serializing operation = false
+
+-- an access can store
+abbrev pub can_store : MemWhat → Bool
+can_store (Store reversed) = true
+can_store (Conditional reversed) = true
+can_store Zero = true
+can_store what = false
+
+-- an operation can
+abbrev pub is_storing : Operation → Bool
+is_storing (Storage row) = can_store row.what
+is_storing operation = false

@@ -39,6 +39,11 @@ IsSlot (Gpr n) = n < 32
 IsSlot (CrField n) = n < 8
 IsSlot slot = ⊤
 
+-- registers that there are
+abbrev pub AreSlots : List Slot → Type 0
+AreSlots [] = ⊤
+AreSlots (slot ∷ slots) = IsSlot slot × AreSlots slots
+
 -- a value that fits it
 abbrev pub FitsSlot : Slot → ℕ → Type 0
 FitsSlot (CrField n) value = value < 16
