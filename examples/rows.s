@@ -1,6 +1,6 @@
-# Each instruction that runs today, once or more: sums, loads and stores of every width, cache, prefixed rows, results
+# Each instruction, once or more: sums, loads and stores of every width, cache, prefixed rows, results
 # with carries, of logic, rotates and shifts, counts, permutes, products and quotients, compares, the condition
-# register, traps that don't hold, and branches.
+# register, traps that don't hold, branches, and the system.
         addi   r3, r0, 0x800    # r3: where the bytes stand
         addis  r4, r0, -2       # r4 = fffffffffffe0000
         ori    r4, r4, 0x8081   # r4 = fffffffffffe8081
@@ -243,4 +243,28 @@ wide:   paddi  r15, r0, 0x10400, 0
 sub:    bcctr  4, 0, 0          # not taken, as bit 0 is 1
         bctar  4, 0, 0          # likewise
         bclr   12, 0, 0         # taken, to LR
-here:   b      here
+
+# The system: MSR, registers by number, what orders, and a service that returns at once.
+here:   mfmsr  r17              # 9000000000001001
+        mtmsrd r17, 1           # EE and RI alone, which stay 0
+        mtmsr  r17, 0           # all that can change, and stays
+        mtspr  272, r22         # SPRG0 = 1
+        mfspr  r18, 272         # 1
+        mftb   r19, 268         # the cycle
+        darn   r20, 1           # ffffffffffffffff: there is no random number
+        isync
+        sync   0
+        sync   2
+        eieio
+        tlbsync
+        tlbie  r3, r22, 0, 0, 0
+        tlbiel r3, r22, 0, 0, 0
+        sc                      # to c00, and back by rfid
+        li     r5, last
+        mtspr  314, r5          # HSRR0
+        mtspr  315, r17         # HSRR1
+        hrfid
+last:   b      last
+
+        .org   0xc00
+        rfid
