@@ -99,35 +99,42 @@ fn traps_of(events: &[Event]) -> (usize, Option<(u64, u64, Vector)>) {
     (count, first)
 }
 
-/// Whether a run is as its row says.
-fn is_as_told(run: &Run, row: &Row) -> bool {
-    let Row(_, trap, [srr0, srr1, dar], contents) = row;
-    let (count, first) = traps_of(run.events.as_slice());
+/// Whether the registers behind a run are these.
+fn has_registers(run: &Run, [srr0, srr1, dar]: [u64; 3], contents: &[(usize, u64)]) -> bool {
     let regs = &run.state.regs;
-    let mut same = first == *trap
-        && count == usize::from(trap.is_some())
-        && regs.srr0 == *srr0
-        && regs.srr1 == *srr1
-        && regs.dar == *dar
+    let mut same = regs.srr0 == srr0
+        && regs.srr1 == srr1
+        && regs.dar == dar
         && regs.dsisr == 0
         && regs.msr == 0x9000_0000_0000_1001;
-    if let Some((_, _, vector)) = trap {
-        same = same && regs.cia == vector.address();
-    }
-    for (number, content) in *contents {
+    for (number, content) in contents {
         same = same && *number < 32 && regs.gpr[*number] == *content;
     }
     same
 }
 
+/// Whether a run has this trap alone and ends at its vector, or has none.
+fn has_trap(run: &Run, trap: Option<(u64, u64, Vector)>) -> bool {
+    let (count, first) = traps_of(run.events.as_slice());
+    match trap {
+        None => count == 0,
+        Some((_, _, vector)) => {
+            count == 1 && first == trap && run.state.regs.cia == vector.address()
+        }
+    }
+}
+
 #[test]
 fn instructions_trap_where_they_should(rt: HostRuntime) -> Result<(), Fail> {
     let alloc = rt.alloc();
-    for row in &ROWS {
-        let image = image_of(alloc, row.0)?;
+    for Row(words, trap, saved, contents) in &ROWS {
+        let image = image_of(alloc, *words)?;
         match simulate(alloc, image.as_slice(), &Script::new(alloc), 40) {
-            Ok(run) => assert!(rt; is_as_told(&run, row), "{:?}", row.0),
-            Err(fault) => panic!(rt; "{fault:?} at {:?}", row.0),
+            Ok(run) => {
+                assert!(rt; has_trap(&run, *trap), "{words:?}");
+                assert!(rt; has_registers(&run, *saved, *contents), "{words:?}");
+            }
+            Err(fault) => panic!(rt; "{fault:?} at {words:?}"),
         }
     }
     Ok(())

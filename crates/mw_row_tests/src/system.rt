@@ -109,7 +109,11 @@ fn rows_of_the_system_leave_what_they_should(rt: HostRuntime) -> Result<(), Fail
             Ok(run) => {
                 for (number, content) in *contents {
                     assert!(rt; *number < 32);
-                    assert_eq!(rt; run.state.regs.gpr[*number], *content, "r{number} of {parts:?}");
+                    assert_eq!(rt;
+                        run.state.regs.gpr[*number],
+                        *content,
+                        "r{number} of {parts:?}"
+                    );
                 }
                 for (name, content) in *names {
                     assert_eq!(rt; content_of(&run, *name), *content, "{name:?} of {parts:?}");
@@ -128,7 +132,11 @@ fn msr_is_not_opened(rt: HostRuntime) -> Result<(), Fail> {
         let image = image_of(alloc, &[(0, *words)])?;
         match simulate(alloc, image.as_slice(), &Script::new(alloc), 3) {
             Ok(_) => panic!(rt; "{words:?} runs"),
-            Err(fault) => assert_eq!(rt; fault, RunFault::Unbuilt { cycle: 2, cia: 8 }, "{words:?}"),
+            Err(fault) => assert_eq!(rt;
+                fault,
+                RunFault::Unbuilt { cycle: 2, cia: 8 },
+                "{words:?}"
+            ),
         }
     }
     Ok(())

@@ -33,6 +33,7 @@ fn digits_of<'a>(set: &[(usize, &'a str)], number: usize) -> &'a str {
 
 /// What a run leaves: the registers of a number, with their digits, all others being 0; CR; the address; SRR0, SRR1 and
 /// DAR; the decrementer; and what the UART sent.
+#[derive(Clone, Copy)]
 pub struct Left<'a> {
     pub set: &'a [(usize, &'a str)],
     pub cr: &'a str,
