@@ -1,0 +1,132 @@
+"""A run in cells: so many rows of addresses and columns of cycles, however long it is.
+
+While a run grows beyond the last column, two columns each become one; while it reaches more addresses than there are
+rows, two ranges of addresses each become one row. So nothing of the run must be known before."""
+
+from array import array
+from dataclasses import dataclass, field
+from operator import add
+from typing import Optional
+
+from mwtracelib.symbols import Symbols
+from mwtracelib.trace import Kind
+
+COLUMNS = 960
+ROWS = 256
+# At first a row is one word of memory, of 4 bytes.
+WORD_SHIFT = 2
+# The most addresses whose rows are kept; past it all are forgotten.
+MOST_KEPT = 100_000
+
+
+def empty_columns() -> array:
+    """A count for each column."""
+    return array("Q", bytes(8 * COLUMNS))
+
+
+def halved(counts: array) -> array:
+    """Counts of columns, two of which each became one."""
+    return array("Q", map(add, counts[::2], counts[1::2])) + array("Q", bytes(4 * COLUMNS))
+
+
+@dataclass
+class Row:
+    """A range of addresses in which something retired."""
+    # retired instructions by column
+    counts: array = field(default_factory=empty_columns)
+    # retired instructions by the name of their function
+    names: dict = field(default_factory=dict)
+
+    def take(self, other: "Row") -> None:
+        """Adds another row's counts to this one's."""
+        self.counts = array("Q", map(add, self.counts, other.counts))
+        for name, count in other.names.items():
+            self.names[name] = self.names.get(name, 0) + count
+
+    def name(self) -> Optional[str]:
+        """The function in which most instructions of this row retired; of two the first by letters."""
+        return min(self.names, key=lambda name: (-self.names[name], name)) if self.names else None
+
+
+class Grid:
+    """The cells of a run, and by column its events and its traps and interrupts."""
+
+    def __init__(self, symbols: Optional[Symbols]):
+        self._symbols = symbols
+        # by the number of their range of addresses
+        self.rows: dict = {}
+        self.row_shift = WORD_SHIFT
+        self.column_shift = 0
+        self.events = empty_columns()
+        # counts by column, by kind and vector
+        self.marks: dict = {}
+        # by address: the row, and the name of the function
+        self._kept: dict = {}
+
+    def add(self, events: list) -> None:
+        """Counts these events."""
+        self._reach(events[-1].cycle)
+        shift, kept, all_events = self.column_shift, self._kept, self.events
+        retire = Kind.RETIRE
+        for kind, cycle, address, tail, _ in events:
+            column = cycle >> shift
+            all_events[column] += 1
+            if kind is not retire:
+                self._mark(kind, tail, column)
+                continue
+            entry = kept.get(address) or self._entry(address)
+            row, name = entry
+            row.counts[column] += 1
+            if name is not None:
+                row.names[name] = row.names.get(name, 0) + 1
+
+    def close(self, cycles: int) -> None:
+        """Makes room for this number of cycles."""
+        self._reach(cycles - 1)
+
+    def column_count(self, cycles: int) -> int:
+        """The number of columns that so many cycles take."""
+        return -(-cycles >> self.column_shift) or 1
+
+    def _reach(self, cycle: int) -> None:
+        while cycle >> self.column_shift >= COLUMNS:
+            self.merge_columns()
+
+    def merge_columns(self) -> None:
+        """Makes one column of two each."""
+        self.column_shift += 1
+        self.events = halved(self.events)
+        for counts in [row.counts for row in self.rows.values()]:
+            counts[:] = halved(counts)
+        for counts in self.marks.values():
+            counts[:] = halved(counts)
+
+    def _mark(self, kind: Kind, vector: bytes, column: int) -> None:
+        counts = self.marks.get((kind, vector))
+        if counts is None:
+            counts = self.marks[kind, vector] = empty_columns()
+        counts[column] += 1
+
+    def _entry(self, address: bytes) -> tuple:
+        """The row of an address, which may be new, and the name of its function."""
+        number = int(address, 16)
+        while number >> self.row_shift not in self.rows and len(self.rows) >= ROWS:
+            self._merge_rows()
+        row = self.rows.setdefault(number >> self.row_shift, Row())
+        place = self._symbols.place(address) if self._symbols is not None else None
+        if len(self._kept) >= MOST_KEPT:
+            self._kept.clear()
+        entry = self._kept[address] = (row, None if place is None else place.symbol.name)
+        return entry
+
+    def _merge_rows(self) -> None:
+        """Makes one row of two ranges of addresses each."""
+        self.row_shift += 1
+        rows: dict = {}
+        for number, row in self.rows.items():
+            if number >> 1 in rows:
+                rows[number >> 1].take(row)
+            else:
+                rows[number >> 1] = row
+        self.rows = rows
+        self._kept.clear()

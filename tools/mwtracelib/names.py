@@ -1,0 +1,38 @@
+"""Each event with the name of its address."""
+
+import sys
+
+from mwtracelib.symbols import Symbols, symbols_of
+from mwtracelib.trace import Trace
+
+
+def name_of(symbols: Symbols, address: bytes) -> bytes:
+    """What stands behind the event of this address: its name, and its file and line where they are known."""
+    place = symbols.place(address)
+    name = b" -" if place is None else b" " + place.text().encode()
+    if symbols.lines is None:
+        return name
+    line = symbols.lines.at(address)
+    return name + b" " + line if line else name
+
+
+def named(symbols: Symbols, events: list) -> bytes:
+    """The lines of these events."""
+    addresses = {event.address for event in events}
+    if symbols.lines is not None:
+        symbols.lines.learn(addresses)
+    behind = {address: name_of(symbols, address) for address in addresses}
+    return b"".join([event.line + behind[event.address] + b"\n" for event in events])
+
+
+def run(arguments) -> int:
+    """The word names."""
+    symbols = symbols_of(arguments)
+    trace = Trace(arguments.trace)
+    for events in trace.batches():
+        sys.stdout.buffer.write(named(symbols, events))
+        sys.stdout.buffer.flush()
+    sys.stdout.buffer.write(b"".join(line + b"\n" for line in trace.ending.lines))
+    if symbols.lines is not None:
+        symbols.lines.close()
+    return 0

@@ -1,0 +1,85 @@
+"""A run in a dozen lines."""
+
+import sys
+from dataclasses import dataclass, field
+
+from mwtracelib.trace import Ending, Kind, Trace
+
+
+@dataclass
+class Summary:
+    """What is counted of the events."""
+    counts: dict = field(default_factory=lambda: dict.fromkeys(Kind, 0))
+    prefixed: int = 0
+    last_cycle: int = -1
+    # the longest stretch without an event: its cycles, and the first of them
+    stretch: int = 0
+    stretch_at: int = 0
+    lowest: bytes = b""
+    highest: bytes = b""
+
+    def add(self, events: list) -> None:
+        """Counts these events."""
+        last = self.last_cycle
+        for event in events:
+            gap = event.cycle - last - 1
+            if gap > self.stretch:
+                self.stretch, self.stretch_at = gap, last + 1
+            last = event.cycle
+        self.last_cycle = last
+        kinds = [event.kind for event in events]
+        for kind in Kind:
+            self.counts[kind] += kinds.count(kind)
+        self.prefixed += sum(b" " in event.tail for event in events)
+        addresses = [event.address for event in events]
+        self.lowest = min(addresses + [self.lowest]) if self.lowest else min(addresses)
+        self.highest = max(addresses + [self.highest])
+
+    def close(self, cycles: int) -> None:
+        """Takes the cycles behind the last event."""
+        gap = cycles - self.last_cycle - 1
+        if gap > self.stretch:
+            self.stretch, self.stretch_at = gap, self.last_cycle + 1
+
+
+def stretch_text(summary: Summary) -> str:
+    """The longest stretch without an event."""
+    if summary.stretch == 0:
+        return "none"
+    last = summary.stretch_at + summary.stretch - 1
+    return "%d cycles, from cycle %d to %d" % (summary.stretch, summary.stretch_at, last)
+
+
+def lines_of(summary: Summary, ending: Ending) -> list:
+    """The dozen lines, each a name and what is told."""
+    events = sum(summary.counts.values())
+    rate = "%.4f" % (events / ending.cycle) if ending.cycle else "none"
+    addresses = "none"
+    if events:
+        addresses = "%s to %s" % (summary.lowest.decode(), summary.highest.decode())
+    return [
+        ("events", events),
+        ("  retired", summary.counts[Kind.RETIRE]),
+        ("  of them prefixed", summary.prefixed),
+        ("  traps", summary.counts[Kind.TRAP]),
+        ("  interrupts", summary.counts[Kind.INTERRUPT]),
+        ("cycles", ending.cycle),
+        ("events a cycle", rate),
+        ("longest stretch without", stretch_text(summary)),
+        ("addresses", addresses),
+        ("bytes the UART sent", len(ending.uart)),
+        ("bytes of the dump", sum(len(content) for _, content in ending.dump)),
+        ("the end", ending.lines[0].decode()[len("end "):]),
+    ]
+
+
+def run(arguments) -> int:
+    """The word summary."""
+    trace = Trace(arguments.trace)
+    summary = Summary()
+    for events in trace.batches():
+        summary.add(events)
+    summary.close(trace.ending.cycle)
+    for name, value in lines_of(summary, trace.ending):
+        sys.stdout.write("%-24s %s\n" % (name, value))
+    return 0
