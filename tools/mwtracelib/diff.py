@@ -2,10 +2,11 @@
 
 import sys
 from collections import deque
-from itertools import chain, islice, zip_longest
-from typing import Iterator, Optional
+from dataclasses import dataclass
+from itertools import zip_longest
+from typing import Optional
 
-from mwtracelib.trace import BadInput, Ending, Event, Trace
+from mwtracelib.trace import BadInput, Batch, Ending, Trace
 
 # The events that are shown before the first difference, and behind it.
 AROUND = 5
@@ -16,18 +17,13 @@ MOST_SENT = 16
 ABSENT = "-"
 
 
-def without_cycle(event: Event) -> tuple:
-    """What is compared of an event where cycles don't count."""
-    return event.kind, event.address, event.tail
-
-
-def is_same(first: Optional[Event], second: Optional[Event], ignores_cycles: bool) -> bool:
-    """Whether two events, of which one may be missing, count as the same."""
-    if first is None or second is None:
-        return False
-    if first.line == second.line:
-        return True
-    return ignores_cycles and without_cycle(first) == without_cycle(second)
+def is_same(first: Optional[bytes], second: Optional[bytes], ignores_cycles: bool) -> bool:
+    """Whether the lines of two events, of which one may be missing, count as the same."""
+    if first is None or second is None or not ignores_cycles:
+        return first == second
+    one, other = first.split(b" "), second.split(b" ")
+    del one[1], other[1]
+    return one == other
 
 
 def pair_line(mark: str, first: str, second: str) -> str:
@@ -35,42 +31,90 @@ def pair_line(mark: str, first: str, second: str) -> str:
     return ("%s %-46s  %s" % (mark, first, second)).rstrip()
 
 
-class Events:
-    """The events of two runs, two by two, up to where they part and behind it."""
+class Side:
+    """One of the two runs, and how far its events are compared."""
 
-    def __init__(self, first: Trace, second: Trace, ignores_cycles: bool):
-        self._traces = (first, second)
-        self._ignores_cycles = ignores_cycles
-        self._pairs: Iterator = zip_longest(
-            chain.from_iterable(first.batches()), chain.from_iterable(second.batches()))
+    def __init__(self, trace: Trace):
+        self._batches = trace.batches()
+        self._batch: Optional[Batch] = None
+        self._at = 0
 
-    def parting(self) -> Optional[tuple]:
-        """The number of the first pair that differs, the pairs before it and from it on; None where all are the same."""
-        before: deque = deque(maxlen=AROUND)
-        for number, pair in enumerate(self._pairs, 1):
-            if pair[0] is not None and pair[1] is not None and pair[0].line == pair[1].line:
-                before.append(pair)
-                continue
-            if not is_same(*pair, self._ignores_cycles):
-                return number, list(before), [pair, *islice(self._pairs, AROUND)]
-            before.append(pair)
-        return None
+    def at_hand(self) -> int:
+        """How many events are at hand; none only where the run has no more."""
+        while self._batch is None or self._at == len(self._batch.lines):
+            self._at = 0
+            self._batch = next(self._batches, None)
+            if self._batch is None:
+                return 0
+        return len(self._batch.lines) - self._at
+
+    def part(self, count: int, ignores_cycles: bool) -> tuple:
+        """What is compared of the next events."""
+        batch, part = self._batch, slice(self._at, self._at + count)
+        if ignores_cycles:
+            return batch.letters[part], batch.addresses[part], batch.tails[part]
+        return (batch.lines[part],)
+
+    def take(self, count: int) -> list:
+        """The lines of the next events, which are at hand."""
+        lines = self._batch.lines[self._at:self._at + count]
+        self._at += count
+        return lines
+
+    def take_more(self, count: int) -> list:
+        """The lines of so many of the next events, or of all that are left."""
+        lines: list = []
+        while len(lines) < count and self.at_hand():
+            lines += self.take(min(count - len(lines), self.at_hand()))
+        return lines
 
     def skip(self) -> None:
-        """Reads both runs to their ends."""
-        deque(self._pairs, maxlen=0)
+        """Reads the run to its end."""
+        while self.at_hand():
+            self._at = len(self._batch.lines)
 
 
-def event_lines(found: tuple, first: Ending, second: Ending, ignores_cycles: bool) -> list:
-    """The first difference, with some pairs around it."""
-    number, before, behind = found
-    lines = ["first difference: event %d" % number]
-    lines += [pair_line(" ", *(event.line.decode() for event in pair)) for pair in before]
+@dataclass(frozen=True)
+class Parting:
+    """Where the events of two runs part: the number of the first pair that differs, and pairs of lines around it."""
+    number: int
+    before: list
+    behind: list
+
+
+def parting(first: Side, second: Side, ignores_cycles: bool) -> Optional[Parting]:
+    """Where two runs part, or None where all their events are the same."""
+    before: deque = deque(maxlen=AROUND)
+    number = 0
+    while True:
+        count = min(first.at_hand(), second.at_hand())
+        is_equal = count and first.part(count, ignores_cycles) == second.part(count, ignores_cycles)
+        if not is_equal:
+            count = first_difference(first.part(count, False), second.part(count, False), ignores_cycles) if count else 0
+        lines, others = (first.take(count), second.take(count)) if count else ([], [])
+        before.extend(zip(lines[-AROUND:], others[-AROUND:]))
+        number += count
+        if not is_equal:
+            break
+    behind = list(zip_longest(first.take_more(1 + AROUND), second.take_more(1 + AROUND)))
+    return Parting(number + 1, list(before), behind) if behind else None
+
+
+def first_difference(first: tuple, second: tuple, ignores_cycles: bool) -> int:
+    """How many lines are the same before the first pair that isn't."""
+    pairs = enumerate(zip(first[0], second[0]))
+    return next(place for place, pair in pairs if not is_same(*pair, ignores_cycles))
+
+
+def event_lines(found: Parting, first: Ending, second: Ending, ignores_cycles: bool) -> list:
+    """The first difference, with some pairs around it. Where a run has no more events, its end stands once."""
+    lines = ["first difference: event %d" % found.number]
+    lines += [pair_line(" ", *(event.decode() for event in pair)) for pair in found.before]
     is_ended = [False, False]
-    for pair in behind:
+    for pair in found.behind:
         texts = []
         for side, (event, ending) in enumerate(zip(pair, (first, second))):
-            texts.append(event.line.decode() if event else "" if is_ended[side] else ending.lines[0].decode())
+            texts.append((event or (b"" if is_ended[side] else ending.lines[0])).decode())
             is_ended[side] = event is None
         lines.append(pair_line(" " if is_same(*pair, ignores_cycles) else "!", *texts))
     return lines
@@ -143,9 +187,10 @@ def run(arguments) -> int:
         raise BadInput("standard input can be one run alone")
     first, second = Trace(arguments.first), Trace(arguments.second)
     ignores_cycles = arguments.ignore_cycles
-    events = Events(first, second, ignores_cycles)
-    found = events.parting()
-    events.skip()
+    sides = Side(first), Side(second)
+    found = parting(*sides, ignores_cycles)
+    for side in sides:
+        side.skip()
     lines = ["A %s" % first.name, "B %s" % second.name, ""]
     heading = len(lines)
     if found is not None:

@@ -4,12 +4,14 @@ While a run grows beyond the last column, two columns each become one; while it 
 rows, two ranges of addresses each become one row. So nothing of the run must be known before."""
 
 from array import array
+from bisect import bisect_left
+from collections import Counter
 from dataclasses import dataclass, field
 from operator import add
 from typing import Optional
 
 from mwtracelib.symbols import Symbols
-from mwtracelib.trace import Kind
+from mwtracelib.trace import Batch, Kind
 
 COLUMNS = 960
 ROWS = 256
@@ -63,22 +65,31 @@ class Grid:
         # by address: the row, and the name of the function
         self._kept: dict = {}
 
-    def add(self, events: list) -> None:
+    def add(self, batch: Batch) -> None:
         """Counts these events."""
-        self._reach(events[-1].cycle)
-        shift, kept, all_events = self.column_shift, self._kept, self.events
-        retire = Kind.RETIRE
-        for kind, cycle, address, tail, _ in events:
-            column = cycle >> shift
-            all_events[column] += 1
-            if kind is not retire:
-                self._mark(kind, tail, column)
+        self._reach(batch.cycles[-1])
+        first = 0
+        while first < len(batch.cycles):
+            column = batch.cycles[first] >> self.column_shift
+            behind = bisect_left(batch.cycles, column + 1 << self.column_shift, first)
+            self.events[column] += behind - first
+            counts = Counter(batch.addresses[first:behind])
+            for event in batch.others_in(first, behind):
+                counts[event.address] -= 1
+                self._mark(Kind(event.letter), event.tail, column)
+            self._add_column(column, counts)
+            first = behind
+
+    def _add_column(self, column: int, counts: Counter) -> None:
+        """Counts what retired in a column, by address."""
+        kept = self._kept
+        for address, count in counts.items():
+            if not count:
                 continue
-            entry = kept.get(address) or self._entry(address)
-            row, name = entry
-            row.counts[column] += 1
+            row, name = kept.get(address) or self._entry(address)
+            row.counts[column] += count
             if name is not None:
-                row.names[name] = row.names.get(name, 0) + 1
+                row.names[name] = row.names.get(name, 0) + count
 
     def close(self, cycles: int) -> None:
         """Makes room for this number of cycles."""
@@ -112,7 +123,9 @@ class Grid:
         number = int(address, 16)
         while number >> self.row_shift not in self.rows and len(self.rows) >= ROWS:
             self._merge_rows()
-        row = self.rows.setdefault(number >> self.row_shift, Row())
+        row = self.rows.get(number >> self.row_shift)
+        if row is None:
+            row = self.rows[number >> self.row_shift] = Row()
         place = self._symbols.place(address) if self._symbols is not None else None
         if len(self._kept) >= MOST_KEPT:
             self._kept.clear()

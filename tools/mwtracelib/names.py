@@ -1,9 +1,10 @@
 """Each event with the name of its address."""
 
 import sys
+from itertools import chain
 
 from mwtracelib.symbols import Symbols, symbols_of
-from mwtracelib.trace import Trace
+from mwtracelib.trace import Batch, Trace
 
 
 def name_of(symbols: Symbols, address: bytes) -> bytes:
@@ -16,21 +17,21 @@ def name_of(symbols: Symbols, address: bytes) -> bytes:
     return name + b" " + line if line else name
 
 
-def named(symbols: Symbols, events: list) -> bytes:
-    """The lines of these events."""
-    addresses = {event.address for event in events}
+def named(symbols: Symbols, batch: Batch) -> bytes:
+    """The lines of these events with their names."""
+    addresses = set(batch.addresses)
     if symbols.lines is not None:
         symbols.lines.learn(addresses)
-    behind = {address: name_of(symbols, address) for address in addresses}
-    return b"".join([event.line + behind[event.address] + b"\n" for event in events])
+    behind = {address: name_of(symbols, address) + b"\n" for address in addresses}
+    return b"".join(chain.from_iterable(zip(batch.lines, map(behind.get, batch.addresses))))
 
 
 def run(arguments) -> int:
     """The word names."""
     symbols = symbols_of(arguments)
     trace = Trace(arguments.trace)
-    for events in trace.batches():
-        sys.stdout.buffer.write(named(symbols, events))
+    for batch in trace.batches():
+        sys.stdout.buffer.write(named(symbols, batch))
         sys.stdout.buffer.flush()
     sys.stdout.buffer.write(b"".join(line + b"\n" for line in trace.ending.lines))
     if symbols.lines is not None:

@@ -233,8 +233,8 @@ def run(arguments) -> int:
     symbols = symbols_of(arguments)
     trace = Trace(arguments.trace)
     grid = Grid(symbols)
-    for events in trace.batches():
-        grid.add(events)
+    for batch in trace.batches():
+        grid.add(batch)
     grid.close(trace.ending.cycle)
     view = View(os.path.basename(trace.name), grid, trace.ending, symbols is not None)
     picture = drawn(view).encode()

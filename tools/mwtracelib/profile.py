@@ -143,9 +143,9 @@ def run(arguments) -> int:
     symbols = symbols_of(arguments)
     trace = Trace(arguments.trace)
     tally, returns = Tally(), Returns()
-    for events in trace.batches():
-        tally.add(events)
-        returns.add(events)
+    for batch in trace.batches():
+        tally.add(batch)
+        returns.add(batch)
     tally.close(trace.ending.cycle)
     groups, addresses = gathered(tally, symbols, arguments.top)
     cycles = trace.ending.cycle

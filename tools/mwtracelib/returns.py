@@ -3,7 +3,7 @@
 from array import array
 from dataclasses import dataclass
 
-from mwtracelib.trace import Event, Kind
+from mwtracelib.trace import RETIRED, Batch, Event, Kind
 
 # rfid and hrfid, and the bits that tell them: the opcode and the extended opcode.
 RETURN_BITS = 0xFC0007FE
@@ -53,21 +53,24 @@ class Returns:
         # returns that had nothing to come back from
         self.loose = 0
 
-    def add(self, events: list) -> None:
+    def add(self, batch: Batch) -> None:
         """Takes these events."""
-        retire = Kind.RETIRE
-        for event in events:
-            if event.kind is not retire:
+        places = {place for place, tail in enumerate(batch.tails) if FIRST_OF_OPCODE <= tail < BEHIND_OPCODE}
+        if batch.letters.count(RETIRED) < len(batch.letters):
+            places.update(place for place, letter in enumerate(batch.letters) if letter != RETIRED)
+        for place in sorted(places):
+            event = batch.event(place)
+            if event.letter != RETIRED:
                 self._take(event)
-            elif FIRST_OF_OPCODE <= event.tail < BEHIND_OPCODE and int(event.tail, 16) & RETURN_BITS in RETURNS:
+            elif int(event.tail, 16) & RETURN_BITS in RETURNS:
                 self._come_back(event.cycle)
 
     def _take(self, event: Event) -> None:
-        vector = event.tail.decode()
-        self.times.setdefault((event.kind, vector), Times()).count += 1
+        kind, vector = Kind(event.letter), event.tail.decode()
+        self.times.setdefault((kind, vector), Times()).count += 1
         self._cycles.append(event.cycle)
         self._vectors.append(int(vector, 16))
-        self._traps.append(event.kind is Kind.TRAP)
+        self._traps.append(kind is Kind.TRAP)
 
     def _come_back(self, cycle: int) -> None:
         if not self._cycles:

@@ -30,11 +30,11 @@ class SourceLines:
                     words, stdin=subprocess.PIPE, stdout=subprocess.PIPE, stderr=subprocess.DEVNULL))
         return None
 
-    def learn(self, addresses: list) -> None:
+    def learn(self, addresses: set) -> None:
         """Asks for these addresses, of 16 digits each, as far as they aren't known."""
         if len(self._known) > MOST_KEPT:
             self._known.clear()
-        unknown = sorted(set(addresses) - self._known.keys())
+        unknown = sorted(addresses - self._known.keys())
         for at in range(0, len(unknown), MOST_ASKED):
             self._ask(unknown[at:at + MOST_ASKED])
 

@@ -2,8 +2,12 @@
 
 import sys
 from dataclasses import dataclass, field
+from operator import sub
 
-from mwtracelib.trace import Ending, Kind, Trace
+from mwtracelib.trace import Batch, Ending, Kind, Trace
+
+# The length of a prefix and its suffix, as they stand in a line.
+PREFIXED_TAIL = 17
 
 
 @dataclass
@@ -18,22 +22,19 @@ class Summary:
     lowest: bytes = b""
     highest: bytes = b""
 
-    def add(self, events: list) -> None:
+    def add(self, batch: Batch) -> None:
         """Counts these events."""
-        last = self.last_cycle
-        for event in events:
-            gap = event.cycle - last - 1
-            if gap > self.stretch:
-                self.stretch, self.stretch_at = gap, last + 1
-            last = event.cycle
-        self.last_cycle = last
-        kinds = [event.kind for event in events]
+        cycles = [self.last_cycle, *batch.cycles]
+        gaps = list(map(sub, batch.cycles, cycles))
+        if max(gaps) - 1 > self.stretch:
+            self.stretch = max(gaps) - 1
+            self.stretch_at = cycles[gaps.index(max(gaps))] + 1
+        self.last_cycle = cycles[-1]
         for kind in Kind:
-            self.counts[kind] += kinds.count(kind)
-        self.prefixed += sum(b" " in event.tail for event in events)
-        addresses = [event.address for event in events]
-        self.lowest = min(addresses + [self.lowest]) if self.lowest else min(addresses)
-        self.highest = max(addresses + [self.highest])
+            self.counts[kind] += batch.letters.count(kind.value)
+        self.prefixed += list(map(len, batch.tails)).count(PREFIXED_TAIL)
+        self.lowest = min(self.lowest or batch.addresses[0], min(batch.addresses))
+        self.highest = max(self.highest, max(batch.addresses))
 
     def close(self, cycles: int) -> None:
         """Takes the cycles behind the last event."""
@@ -77,8 +78,8 @@ def run(arguments) -> int:
     """The word summary."""
     trace = Trace(arguments.trace)
     summary = Summary()
-    for events in trace.batches():
-        summary.add(events)
+    for batch in trace.batches():
+        summary.add(batch)
     summary.close(trace.ending.cycle)
     for name, value in lines_of(summary, trace.ending):
         sys.stdout.write("%-24s %s\n" % (name, value))

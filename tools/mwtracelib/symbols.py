@@ -1,7 +1,6 @@
 """The names of addresses: of an ELF file, or of the text that nm prints."""
 
 from bisect import bisect_right
-from dataclasses import dataclass
 from typing import NamedTuple, Optional
 
 from mwtracelib.elf import read_symbols
@@ -10,8 +9,6 @@ from mwtracelib.trace import HEX_DIGITS, BadInput
 
 # nm's letters of symbols that are no places: absolute numbers, debugging, undefined ones.
 NO_PLACE = "AaNnUuvw"
-# The most addresses whose names are kept; past it all are forgotten.
-MOST_KEPT = 100_000
 
 
 class Symbol(NamedTuple):
@@ -23,11 +20,8 @@ class Symbol(NamedTuple):
     size: int
 
 
-@dataclass(frozen=True)
-class Place:
+class Place(NamedTuple):
     """What is known of an address."""
-    # the number of its symbol in the order of addresses
-    index: int
     symbol: Symbol
     offset: int
 
@@ -40,32 +34,24 @@ class Symbols:
     """The symbols of a program, and the lines of its source where they are known."""
 
     def __init__(self, symbols: list, lines: Optional[SourceLines] = None):
-        first = {}
+        first: dict = {}
         for symbol in sorted(symbols):
             first.setdefault(symbol.address, symbol)
-        self.symbols = list(first.values())
         self.lines = lines
+        self._symbols = list(first.values())
         self._addresses = list(first)
-        self._kept: dict = {}
 
     def place(self, address: bytes) -> Optional[Place]:
         """The symbol at or below an address of 16 digits, unless the address is behind its end."""
-        place = self._kept.get(address, self)
-        if place is self:
-            if len(self._kept) >= MOST_KEPT:
-                self._kept.clear()
-            place = self._kept[address] = self._found(int(address, 16))
-        return place
-
-    def _found(self, address: int) -> Optional[Place]:
-        index = bisect_right(self._addresses, address) - 1
+        number = int(address, 16)
+        index = bisect_right(self._addresses, number) - 1
         if index < 0:
             return None
-        symbol = self.symbols[index]
-        offset = address - symbol.address
+        symbol = self._symbols[index]
+        offset = number - symbol.address
         if symbol.size and offset >= symbol.size:
             return None
-        return Place(index, symbol, offset)
+        return Place(symbol, offset)
 
 
 def symbols_of_nm(path: str) -> Symbols:

@@ -3,10 +3,12 @@
 import heapq
 import struct
 import tempfile
+from collections import Counter
 from itertools import groupby
+from operator import sub
 from typing import Iterator, NamedTuple
 
-from mwtracelib.trace import Kind
+from mwtracelib.trace import RETIRED, Batch
 
 # The most addresses in memory, which take some 60 MB.
 MOST_IN_MEMORY = 150_000
@@ -27,59 +29,74 @@ class Tally:
     """Counts events, and gives the counts in the order of addresses."""
 
     def __init__(self):
-        # lists of retired instructions, cycles and words, by address
-        self._entries: dict = {}
+        # by address
+        self._cycles: dict = {}
+        self._retired: Counter = Counter()
+        self._words: dict = {}
         self._files: list = []
-        self._last_entry = None
+        # the last event
+        self._last_address = b""
         self._last_cycle = 0
         # the cycles before the first event
         self.before = 0
 
-    def add(self, events: list) -> None:
+    def add(self, batch: Batch) -> None:
         """Counts these events. The cycles from one to the next belong to the address of the first of the two."""
-        entries, entry, last = self._entries, self._last_entry, self._last_cycle
-        for kind, cycle, address, tail, _ in events:
-            if entry is None:
-                self.before = cycle
+        if not self._last_address:
+            self.before = batch.cycles[0]
+        else:
+            self._cycles[self._last_address] += batch.cycles[0] - self._last_cycle
+        cycles = self._cycles
+        for address, taken in zip(batch.addresses, map(sub, batch.cycles[1:], batch.cycles)):
+            if address in cycles:
+                cycles[address] += taken
             else:
-                entry[1] += cycle - last
-            last = cycle
-            entry = entries.get(address)
-            if entry is None:
-                entry = entries[address] = [0, 0, b""]
-            if kind is Kind.RETIRE:
-                entry[0] += 1
-                entry[2] = entry[2] or tail
-        self._last_entry, self._last_cycle = entry, last
-        if len(entries) > MOST_IN_MEMORY:
-            self._spill(events[-1].address)
+                cycles[address] = taken
+        self._last_address, self._last_cycle = batch.addresses[-1], batch.cycles[-1]
+        cycles.setdefault(self._last_address, 0)
+        self._add_retired(batch)
+        if len(cycles) > MOST_IN_MEMORY:
+            self._spill()
+
+    def _add_retired(self, batch: Batch) -> None:
+        """Counts what retired, and keeps the words of each address."""
+        addresses, tails = batch.addresses, batch.tails
+        if batch.letters.count(RETIRED) < len(batch.letters):
+            places = [place for place, letter in enumerate(batch.letters) if letter == RETIRED]
+            addresses, tails = [addresses[place] for place in places], [tails[place] for place in places]
+        self._retired.update(addresses)
+        # the words that an address had first stay
+        for address, words in dict(zip(reversed(addresses), reversed(tails))).items():
+            self._words.setdefault(address, words)
 
     def close(self, cycles: int) -> None:
         """Takes the cycles behind the last event, of so many cycles in all."""
-        if self._last_entry is None:
+        if not self._last_address:
             self.before = cycles
         else:
-            self._last_entry[1] += cycles - self._last_cycle
+            self._cycles[self._last_address] += cycles - self._last_cycle
 
-    def _spill(self, last: bytes) -> None:
-        """Writes the counts to a file, and begins anew with that of the last event."""
+    def _in_memory(self) -> Iterator[Count]:
+        """The counts that are in memory, in the order of addresses."""
+        for address in sorted(self._cycles):
+            yield Count(address, self._retired[address], self._cycles[address], self._words.get(address, b""))
+
+    def _spill(self) -> None:
+        """Writes the counts to a file, and begins anew with the last event's address."""
         file = tempfile.TemporaryFile(prefix="mwtrace")
-        addresses = sorted(self._entries)
-        for at in range(0, len(addresses), RECORDS_AT_ONCE):
-            part = addresses[at:at + RECORDS_AT_ONCE]
-            file.write(b"".join([RECORD.pack(address, *self._entries[address]) for address in part]))
+        file.writelines(RECORD.pack(*count) for count in self._in_memory())
         self._files.append(file)
-        self._last_entry = [0, 0, b""]
-        self._entries = {last: self._last_entry}
+        self._cycles = {self._last_address: 0}
+        self._retired = Counter()
+        self._words = {}
 
     def counts(self) -> Iterator[Count]:
         """Each address once, in ascending order."""
-        in_memory = (Count(address, *self._entries[address]) for address in sorted(self._entries))
         if not self._files:
-            yield from in_memory
+            yield from self._in_memory()
             return
         parts = [records(file) for file in self._files]
-        for address, same in groupby(heapq.merge(*parts, in_memory), key=lambda count: count.address):
+        for address, same in groupby(heapq.merge(*parts, self._in_memory()), key=lambda count: count.address):
             yield merged(address, list(same))
 
 

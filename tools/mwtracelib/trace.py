@@ -8,8 +8,9 @@ from typing import Iterator, NamedTuple, Optional
 from mwtracelib.progress import Progress
 
 HEX_DIGITS = b"0123456789abcdef"
-# The bytes that are read at once, and the longest line that is taken.
-CHUNK = 1 << 20
+# The bytes that are read at once, so few that what is made of them stays in the processor's caches, and the longest line
+# that is taken.
+CHUNK = 1 << 16
 LONGEST_LINE = 1 << 20
 LARGEST_CYCLE = (1 << 64) - 1
 WORD_DIGITS = 8
@@ -36,17 +37,39 @@ class Kind(Enum):
     INTERRUPT = b"I"
 
 
-KINDS = {kind.value: kind for kind in Kind}
+LETTERS = {kind.value for kind in Kind}
+RETIRED = Kind.RETIRE.value
 
 
 class Event(NamedTuple):
-    """A line of an event. An address stays the text of its 16 digits, whose order is that of the numbers."""
-    kind: Kind
+    """One event. An address stays the text of its 16 digits, whose order is that of the numbers."""
+    letter: bytes
     cycle: int
     address: bytes
     # the word, the prefix and the suffix, or the vector
     tail: bytes
-    line: bytes
+
+
+@dataclass(frozen=True)
+class Batch:
+    """Some events that follow each other, a list for each part of them: what is done to a list at once is fast."""
+    lines: list
+    letters: tuple
+    cycles: list
+    addresses: tuple
+    tails: tuple
+
+    def others_in(self, first: int, behind: int) -> Iterator[Event]:
+        """The traps and interrupts from the first of these places on up to before the other."""
+        letters = self.letters[first:behind]
+        if letters.count(RETIRED) < len(letters):
+            for place, letter in enumerate(letters, first):
+                if letter != RETIRED:
+                    yield self.event(place)
+
+    def event(self, place: int) -> Event:
+        """The event at a place."""
+        return Event(self.letters[place], self.cycles[place], self.addresses[place], self.tails[place])
 
 
 @dataclass(frozen=True)
@@ -75,28 +98,48 @@ def is_number(text: bytes) -> bool:
     return len(text) < 20 or (len(text) == 20 and int(text) <= LARGEST_CYCLE)
 
 
-def is_tail(kind: Kind, tail: bytes) -> bool:
-    """Whether a text may stand behind the address of an event of this kind."""
-    if kind is not Kind.RETIRE:
+def is_tail(letter: bytes, tail: bytes) -> bool:
+    """Whether a text may stand behind the address of an event of this letter."""
+    if letter != RETIRED:
         return is_hex(tail, VECTOR_DIGITS)
-    if len(tail) == WORD_DIGITS:
-        return not tail.strip(HEX_DIGITS)
     word, space, suffix = tail.partition(b" ")
-    return space == b" " and is_hex(word, WORD_DIGITS) and is_hex(suffix, WORD_DIGITS)
+    return is_hex(word, WORD_DIGITS) and (not space or is_hex(suffix, WORD_DIGITS))
 
 
-def event_of(line: bytes) -> Optional[Event]:
-    """The event that a line tells, or None where it tells none."""
+def is_event(line: bytes) -> bool:
+    """Whether a line tells an event."""
     fields = line.split(b" ", 3)
-    if len(fields) != 4:
+    if len(fields) != 4 or fields[0] not in LETTERS:
+        return False
+    return is_number(fields[1]) and is_hex(fields[2], ADDRESS_DIGITS) and is_tail(fields[0], fields[3])
+
+
+def cycles_of(numbers: tuple) -> Optional[list]:
+    """The numbers that these texts tell, or None where one of them isn't a number."""
+    try:
+        cycles = list(map(int, numbers))
+    except ValueError:
         return None
-    letter, cycle, address, tail = fields
-    kind = KINDS.get(letter)
-    if kind is None or len(address) != ADDRESS_DIGITS or address.strip(HEX_DIGITS):
+    if not b"".join(numbers).isdigit() or max(cycles) > LARGEST_CYCLE:
         return None
-    if not is_number(cycle) or not is_tail(kind, tail):
+    has_leading_zero = any(len(number) > 1 for number in numbers if number < b"1")
+    return None if has_leading_zero else cycles
+
+
+def batch_of(lines: list) -> Optional[Batch]:
+    """The events of these lines, of which there is one at least, or None where one of them tells no event."""
+    fields = [line.split(b" ", 3) for line in lines]
+    if set(map(len, fields)) != {4}:
         return None
-    return Event(kind, int(cycle), address, tail, line)
+    letters, numbers, addresses, tails = zip(*fields)
+    cycles = cycles_of(numbers)
+    if cycles is None or not set(letters) <= LETTERS:
+        return None
+    if set(map(len, addresses)) != {ADDRESS_DIGITS} or b"".join(addresses).translate(None, HEX_DIGITS):
+        return None
+    if not all(is_tail(letter, tail) for letter, tail in set(zip(letters, tails))):
+        return None
+    return Batch(lines, letters, cycles, addresses, tails)
 
 
 def is_offence_tail(fields: list) -> bool:
@@ -157,13 +200,13 @@ class Trace:
         """The refusal of a line."""
         return BadInput("%s:%d: %s" % (self.name, number, why))
 
-    def batches(self) -> Iterator[list]:
+    def batches(self) -> Iterator[Batch]:
         """The events in their order, some thousand at a time. It ends with BadInput where the text isn't a printed run."""
         with self._file, Progress(self.name) as progress:
             for lines in self._line_batches():
-                events = self._events_of(lines)
-                if events:
-                    yield events
+                batch = self._batch_of(lines)
+                if batch is not None:
+                    yield batch
                 progress.tell(self._number)
         if not self._last_lines:
             raise self.bad(self._number + 1, "the text ends before the end line of its events")
@@ -187,37 +230,41 @@ class Trace:
         if rest:
             raise self.bad(self._number + 1, "the last line is cut: it has no line feed")
 
-    def _events_of(self, lines: list) -> list:
-        """The events of these lines. Those from the end line on are kept for later."""
-        events = []
+    def _batch_of(self, lines: list) -> Optional[Batch]:
+        """The events of these lines, if there are any. Those from the end line on are kept for later."""
         if self._last_lines:
             self._keep(lines)
-            return events
-        cycle = self._cycle
-        for line in lines:
-            event = event_of(line)
-            if event is None:
-                self._number += len(events)
-                self._begin_ending(lines[len(events):], cycle)
-                return events
-            if event.cycle < cycle:
-                raise self.bad(self._number + len(events) + 1,
-                               "cycle %d behind cycle %d" % (event.cycle, cycle))
-            cycle = event.cycle
-            events.append(event)
-        self._number += len(events)
-        self._cycle = cycle
-        return events
+            return None
+        batch = batch_of(lines) if lines else None
+        if batch is not None:
+            self._take(batch)
+            return batch
+        count = next((place for place, line in enumerate(lines) if not is_event(line)), 0)
+        if count:
+            batch = batch_of(lines[:count])
+            self._take(batch)
+        if lines:
+            self._begin_ending(lines[count:])
+        return batch
 
-    def _begin_ending(self, lines: list, cycle: int) -> None:
+    def _take(self, batch: Batch) -> None:
+        """Counts the lines of a batch, whose cycles may not fall."""
+        cycles = [self._cycle, *batch.cycles]
+        if cycles != sorted(cycles):
+            place = next(place for place in range(1, len(cycles)) if cycles[place] < cycles[place - 1])
+            raise self.bad(self._number + place, "cycle %d behind cycle %d" % (cycles[place], cycles[place - 1]))
+        self._cycle = cycles[-1]
+        self._number += len(batch.lines)
+
+    def _begin_ending(self, lines: list) -> None:
         """Takes the end line and what stands behind it."""
         if not is_end(lines[0]):
             raise self.bad(self._number + 1, "not a line of a printed run")
         fields = lines[0].split(b" ")
         last = int(fields[2])
         # cycle N of `end ran N` isn't run; an offence has the cycle in which its event would have come
-        if last < cycle or (last == cycle and fields[1] == b"ran"):
-            raise self.bad(self._number + 1, "an end at cycle %d behind an event of cycle %d" % (last, cycle))
+        if last < self._cycle or (last == self._cycle and fields[1] == b"ran"):
+            raise self.bad(self._number + 1, "an end at cycle %d behind an event of cycle %d" % (last, self._cycle))
         self._keep(lines)
 
     def _keep(self, lines: list) -> None:
