@@ -108,7 +108,7 @@ def first_difference(first: tuple, second: tuple, ignores_cycles: bool) -> int:
 
 def event_lines(found: Parting, first: Ending, second: Ending, ignores_cycles: bool) -> list:
     """The first difference, with some pairs around it. Where a run has no more events, its end stands once."""
-    lines = ["first difference: event %d" % found.number]
+    lines = ["", "first difference: event %d" % found.number]
     lines += [pair_line(" ", *(event.decode() for event in pair)) for pair in found.before]
     is_ended = [False, False]
     for pair in found.behind:
@@ -191,7 +191,7 @@ def run(arguments) -> int:
     found = parting(*sides, ignores_cycles)
     for side in sides:
         side.skip()
-    lines = ["A %s" % first.name, "B %s" % second.name, ""]
+    lines = ["A %s" % first.name, "B %s" % second.name]
     heading = len(lines)
     if found is not None:
         lines += event_lines(found, first.ending, second.ending, ignores_cycles)

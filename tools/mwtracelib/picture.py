@@ -12,7 +12,7 @@ from mwtracelib.symbols import symbols_of
 from mwtracelib.trace import BadInput, Ending, Kind, Trace
 
 LARGEST_FILE = 2_000_000
-LEFT, PLOT = 210, 940
+LEFT, PLOT = 240, 910
 # The height of all rows together, and the most of one.
 ROWS_HEIGHT, MOST_ROW = 360, 18
 LANE, MOST_LANES = 18, 8
@@ -112,8 +112,10 @@ def draw_lanes(view: View, top: float) -> tuple:
     """A lane of marks for each vector, and where the last one ends."""
     parts = []
     for kind, vector, counts in lanes_of(view):
-        label = "%s: %d" % (vector_text(kind, vector), sum(counts))
-        parts.append(text(LEFT - 8, top + LANE - 5, cut(label, LABEL_CHARACTERS), "end", label))
+        whole = "%s: %s" % (vector_text(kind, vector), format(sum(counts), ","))
+        # T or I, as in the printed run, where the whole has the word
+        label = "%s %s" % (kind.value.decode(), whole.split(" ", 1)[1])
+        parts.append(text(LEFT - 8, top + LANE - 5, cut(label, LABEL_CHARACTERS), "end", whole))
         marks = "".join("M%s %sv%d" % (drawing.number(view.x(column + 0.5)), drawing.number(top + 3), LANE - 6)
                         for column, count in enumerate(counts) if count)
         parts.append('<path class="%s" d="%s"/>' % (kind.name.lower(), marks))
@@ -188,21 +190,33 @@ def draw_uart(view: View, top: float) -> tuple:
     return [text(20, top, cut(head + shown, TEXT_CHARACTERS))], top
 
 
-def draw_legend(view: View, y: float) -> list:
-    """What the colours mean."""
-    parts = [text(LEFT, y, "retired in a cell of %s:" % cell_text(view), "soft")]
-    x = LEFT + CHARACTER * len("retired in a cell of %s:  " % cell_text(view))
+def legend_entries(view: View) -> list:
+    """What is explained: the class of each sign, and its text."""
     most = max((max(row.counts) for row in view.grid.rows.values()), default=0)
-    entries = [("level%d" % level, "%d" % least if least == largest else "%d to %d" % (least, largest))
-               for level, least, largest in drawing.level_ranges(most)]
+    entries = []
+    for level, least, largest in drawing.level_ranges(most):
+        text_of_range = format(least, ",")
+        if least < largest:
+            text_of_range += " to " + format(largest, ",")
+        entries.append(("level%d" % level, text_of_range))
     for kind in (Kind.TRAP, Kind.INTERRUPT):
         if any(key[0] is kind for key in view.grid.marks):
-            entries.append((kind.name.lower(), kind.name.lower()))
+            entries.append((kind.name.lower(), "%s: %s" % (kind.value.decode(), kind.name.lower())))
+    return entries
+
+
+def draw_legend(view: View, y: float) -> list:
+    """What the colours mean."""
+    head = "retired in a cell:"
+    entries = legend_entries(view)
+    parts = [text(20, y, head, "soft")]
+    x = 20 + CHARACTER * (len(head) + 1)
     for classes, label in entries:
-        is_mark = not classes.startswith("level")
-        swatch = '<path class="%s" d="M%s %sv12"/>' if is_mark else '<path class="%s" stroke-width="12" d="M%s %sh12"/>'
-        parts.append(swatch % (classes, drawing.number(x + (6 if is_mark else 0)), drawing.number(y - (10 if is_mark else 4))))
-        parts.append(text(x + 18, y, label))
+        if classes.startswith("level"):
+            sign = '<path class="%s" stroke-width="12" d="M%s %sh12"/>' % (classes, drawing.number(x), drawing.number(y - 4))
+        else:
+            sign = '<path class="%s" d="M%s %sv12"/>' % (classes, drawing.number(x + 6), drawing.number(y - 10))
+        parts += [sign, text(x + 18, y, label)]
         x += 18 + CHARACTER * (len(label) + 2)
     return parts
 
@@ -210,7 +224,8 @@ def draw_legend(view: View, y: float) -> list:
 def cell_text(view: View) -> str:
     """The size of a cell."""
     cycles = 1 << view.grid.column_shift
-    return "%s bytes, %s cycle%s" % (format(1 << view.grid.row_shift, ","), format(cycles, ","), "s" if cycles > 1 else "")
+    return "a cell is %s bytes and %s cycle%s" % (
+        format(1 << view.grid.row_shift, ","), format(cycles, ","), "s" if cycles > 1 else "")
 
 
 def drawn(view: View) -> str:
@@ -219,8 +234,8 @@ def drawn(view: View) -> str:
     what = "addresses by function, the low ones above" if view.has_names else "addresses, the low ones above"
     told = "%s: %s events, %s" % (view.name, format(sum(view.grid.events), ","), view.ending.lines[0].decode())
     parts = [text(20, 32, title, "title"), text(20, 54, cut(told, TEXT_CHARACTERS), "soft", told),
-             *draw_legend(view, 84), text(LEFT, 108, what, "soft")]
-    at = 116
+             *draw_legend(view, 80), text(LEFT, 106, "%s; %s" % (what, cell_text(view)), "soft")]
+    at = 114
     for draw, gap in ((draw_rows, 0), (draw_lanes, 14), (draw_rate, 0), (draw_axis, 28), (draw_uart, 20)):
         more, at = draw(view, at)
         parts += more

@@ -13,7 +13,7 @@ FIRST_OF_OPCODE, BEHIND_OPCODE = b"4c", b"5"
 # The names of the vectors that the board takes.
 VECTOR_NAMES = {
     "0300": "data storage", "0380": "data segment", "0400": "instruction storage", "0480": "instruction segment",
-    "0500": "external", "0600": "alignment", "0700": "program", "0800": "floating-point unavailable",
+    "0500": "external", "0600": "alignment", "0700": "program", "0800": "FP unavailable",
     "0900": "decrementer", "0c00": "system call", "0f20": "vector unavailable", "0f40": "VSX unavailable"}
 
 
@@ -36,8 +36,7 @@ class Times:
 
 def vector_text(kind: Kind, vector: str) -> str:
     """A vector with its name."""
-    what = "trap" if kind is Kind.TRAP else "interrupt"
-    return "%s %s %s" % (what, vector, VECTOR_NAMES.get(vector, "")) if vector in VECTOR_NAMES else what + " " + vector
+    return " ".join([kind.name.lower(), vector, VECTOR_NAMES.get(vector, "")]).rstrip()
 
 
 class Returns:

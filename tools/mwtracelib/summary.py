@@ -48,6 +48,8 @@ def stretch_text(summary: Summary) -> str:
     if summary.stretch == 0:
         return "none"
     last = summary.stretch_at + summary.stretch - 1
+    if summary.stretch == 1:
+        return "1 cycle, which is cycle %d" % last
     return "%d cycles, from cycle %d to %d" % (summary.stretch, summary.stretch_at, last)
 
 

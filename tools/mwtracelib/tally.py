@@ -5,7 +5,7 @@ import struct
 import tempfile
 from collections import Counter
 from itertools import groupby
-from operator import sub
+from operator import itemgetter, sub
 from typing import Iterator, NamedTuple
 
 from mwtracelib.trace import RETIRED, Batch
@@ -23,6 +23,9 @@ class Count(NamedTuple):
     retired: int
     cycles: int
     words: bytes
+
+
+ADDRESS = itemgetter(0)
 
 
 class Tally:
@@ -96,7 +99,9 @@ class Tally:
             yield from self._in_memory()
             return
         parts = [records(file) for file in self._files]
-        for address, same in groupby(heapq.merge(*parts, self._in_memory()), key=lambda count: count.address):
+        # of one address the counts come in the order of the files
+        ordered = heapq.merge(*parts, self._in_memory(), key=ADDRESS)
+        for address, same in groupby(ordered, key=ADDRESS):
             yield merged(address, list(same))
 
 
