@@ -96,23 +96,22 @@ def group_lines(groups: Top, title: str, cycles: int) -> list:
     return lines
 
 
-def address_text(count: Count, statement: str, symbols: Symbols) -> str:
-    """What the table says of an address behind its numbers."""
-    name = ""
-    if symbols is not None:
-        place = symbols.place(count.address)
-        name = "-" if place is None else place.text()
-    text = "%s %-17s %-24s %s" % (count.address.decode(), count.words.decode() or "-", statement, name)
-    return " ".join(text.split()) if not statement else text
+def address_text(count: Count, statement: str, symbols: Symbols) -> list:
+    """What the table says of an address behind its numbers, part by part."""
+    place = symbols.place(count.address) if symbols is not None else None
+    name = "" if symbols is None else "-" if place is None else place.text()
+    return [count.address.decode(), count.words.decode() or "-", statement, name]
 
 
 def address_lines(addresses: Top, symbols: Symbols, cycles: int) -> list:
-    """The table of the hottest addresses."""
+    """The table of the hottest addresses. The statements have a column where there are some."""
     shown = addresses.lines()
     found = statements([(line.what.address, line.what.words) for line in shown])
-    lines = [row("retired", "cycles", "share", "address, word, statement" if any(found) else "address, word")]
+    has_statements = any(found)
+    form = "%s %-17s %-24s %s" if has_statements else "%s %-8s %s%s"
+    lines = [row("retired", "cycles", "share", "address, word, statement" if has_statements else "address, word")]
     for line, statement in zip(shown, found):
-        text = address_text(line.what, statement, symbols)
+        text = form % tuple(address_text(line.what, statement, symbols))
         lines.append(row(line.retired, line.cycles, share_of(line.cycles, cycles), text))
     return lines
 

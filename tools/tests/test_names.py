@@ -4,7 +4,7 @@ import os
 import unittest
 
 import made
-from base import ToolTest
+from base import TOP, ToolTest
 
 FUNCTION, OBJECT, SECTION, FILE = 2, 1, 3, 4
 GLOBAL, LOCAL = 1, 0
@@ -53,6 +53,19 @@ def behind(names):
     return made.trace([event + name for event, name in zip(EVENTS, names)], "end ran 6")
 
 
+def labels_of(source):
+    """The labels of a source in which each instruction has one word, and all data are single bytes."""
+    labels, address = [], 0
+    for line in source.splitlines():
+        statement = line.partition("#")[0]
+        if ":" in statement:
+            label, _, statement = statement.partition(":")
+            labels.append((label.strip(), address))
+        if statement.strip():
+            address += len(statement.split(",")) if ".byte" in statement else 4
+    return labels
+
+
 class NamesTest(ToolTest):
     """The word names."""
 
@@ -62,6 +75,13 @@ class NamesTest(ToolTest):
         with open(os.path.join(self.folder, "data", "euclid.txt"), encoding="ascii") as file:
             rest = file.read().partition("end ran 18\n")[2]
         self.assertEqual(output, EUCLID + rest)
+
+    def test_labels_of_the_examples_are_those_of_their_sources(self):
+        for source, names in (("text.s", "examples/text.nm"), ("euclid.s", "tools/tests/data/euclid.nm")):
+            with open(os.path.join(TOP, "examples", source), encoding="ascii") as file:
+                labels = labels_of(file.read())
+            with open(os.path.join(TOP, names), encoding="ascii") as file:
+                self.assertEqual(file.read(), "".join("%016x t %s\n" % (at, label) for label, at in labels))
 
     def test_both_orders_of_elf(self):
         trace = self.trace(EVENTS, "end ran 6")

@@ -8,7 +8,11 @@ import unittest
 import xml.etree.ElementTree as xml
 
 import made
-from base import TESTS, TOP, ToolTest
+from base import TESTS, TOOLS, TOP, ToolTest
+
+sys.path.insert(0, TOOLS)
+
+from mwtracelib import grid, trace  # noqa: E402
 
 LARGEST = 2_000_000
 SVG = "{http://www.w3.org/2000/svg}"
@@ -108,9 +112,6 @@ class PictureTest(ToolTest):
         self.assertIn("made.txt: 5,000 events, end ran 5000", self.texts(picture))
 
     def test_cells_count_each_retirement(self):
-        sys.path.insert(0, os.path.join(TOP, "tools"))
-        self.addCleanup(sys.path.remove, os.path.join(TOP, "tools"))
-        from mwtracelib import grid, trace
         path = os.path.join(self.folder, self.trace(list(made.long_events(30_000)), "end ran 100000"))
         run, cells = trace.Trace(path), grid.Grid(None)
         retired, others = 0, 0

@@ -7,6 +7,10 @@ import unittest
 import made
 from base import MW, TOOLS, ToolTest
 
+sys.path.insert(0, TOOLS)
+
+from mwtracelib import tally, trace  # noqa: E402
+
 EUCLID = """\
 18 retired in 18 cycles, 0 of them before the first event
 
@@ -153,9 +157,6 @@ class ProfileTest(ToolTest):
     def test_counts_in_files_are_the_same(self):
         events = ["R %d %016x %08x" % (3 * number, number * 7919 % 5000 * 4, number) for number in range(20_000)]
         path = os.path.join(self.folder, self.trace(events, "end ran 60000"))
-        sys.path.insert(0, TOOLS)
-        self.addCleanup(sys.path.remove, TOOLS)
-        from mwtracelib import tally, trace
         counts = []
         for most in (100, tally.MOST_IN_MEMORY):
             self.addCleanup(setattr, tally, "MOST_IN_MEMORY", tally.MOST_IN_MEMORY)

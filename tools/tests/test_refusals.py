@@ -1,9 +1,15 @@
 """Texts that aren't a printed run, and words that aren't understood: status 2 and one line."""
 
+import os
+import sys
 import unittest
 
 import made
-from base import ToolTest
+from base import TOOLS, ToolTest
+
+sys.path.insert(0, TOOLS)
+
+from mwtracelib import trace  # noqa: E402
 
 EVENTS = ["R 0 0000000000000000 38600001", "R 1 0000000000000004 38600001", "R 2 0000000000000008 38600001"]
 WHOLE = made.trace(EVENTS, "end ran 3", uart="41", dump=["m 0000000000000000 " + "00" * 32, "m 0000000000000020 00"])
@@ -53,10 +59,17 @@ class RefusalTest(ToolTest):
             status, _, errors = self.run_tool(*self.words(word))
             self.assertEqual((status, errors), (0, ""))
 
+    def check_read(self, text, line):
+        """Checks that the reader refuses this text by this line, without a process of its own."""
+        path = os.path.join(self.folder, self.write("made.txt", text))
+        with self.assertRaises(trace.BadInput) as refused:
+            list(trace.Trace(path).batches())
+        self.assertEqual(str(refused.exception), os.path.join(self.folder, line))
+
     def test_unknown_lines(self):
         lines = WHOLE.split("\n")
         for line in BAD_LINES:
-            self.refuse("\n".join([lines[0], line, *lines[2:]]), "made.txt:2: " + UNKNOWN)
+            self.check_read("\n".join([lines[0], line, *lines[2:]]), "made.txt:2: " + UNKNOWN)
 
     def test_each_word_refuses_an_unknown_line(self):
         self.refuse(WHOLE.replace("R 1", "Q 1"), "made.txt:2: " + UNKNOWN, WORDS)
@@ -76,7 +89,7 @@ class RefusalTest(ToolTest):
     def test_changes(self):
         for old, new, line in CHANGES:
             self.assertIn(old, WHOLE)
-            self.refuse(WHOLE.replace(old, new, 1), line)
+            self.check_read(WHOLE.replace(old, new, 1), line)
 
     def test_line_far_behind_the_first_batch(self):
         events = ["R %d %016x 38600001" % (cycle, 4 * cycle) for cycle in range(20_000)]
