@@ -87,14 +87,14 @@ def parting(first: Side, second: Side, ignores_cycles: bool) -> Optional[Parting
     before: deque = deque(maxlen=AROUND)
     number = 0
     while True:
-        count = min(first.at_hand(), second.at_hand())
-        is_equal = count and first.part(count, ignores_cycles) == second.part(count, ignores_cycles)
-        if not is_equal:
-            count = first_difference(first.part(count, False), second.part(count, False), ignores_cycles) if count else 0
-        lines, others = (first.take(count), second.take(count)) if count else ([], [])
-        before.extend(zip(lines[-AROUND:], others[-AROUND:]))
-        number += count
-        if not is_equal:
+        count = same = min(first.at_hand(), second.at_hand())
+        if not count:
+            break
+        if first.part(count, ignores_cycles) != second.part(count, ignores_cycles):
+            same = first_difference(first.part(count, False), second.part(count, False), ignores_cycles)
+        before.extend(zip(first.take(same)[-AROUND:], second.take(same)[-AROUND:]))
+        number += same
+        if same < count:
             break
     behind = list(zip_longest(first.take_more(1 + AROUND), second.take_more(1 + AROUND)))
     return Parting(number + 1, list(before), behind) if behind else None

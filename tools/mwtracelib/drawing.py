@@ -99,7 +99,8 @@ def cells(rows: Iterable, most: int, place: str) -> str:
                 begin, current = column, level
         if current:
             paths[current].append("M%d %dh%d" % (begin, row, len(counts) - begin))
-    drawn = "".join('<path class="level%d" d="%s"/>\n' % (level, "".join(path)) for level, path in paths.items() if path)
+    drawn = "".join(
+        '<path class="level%d" d="%s"/>\n' % (level, "".join(path)) for level, path in paths.items() if path)
     return '<g class="cells" transform="%s">\n%s</g>' % (place, drawn)
 
 
@@ -108,4 +109,5 @@ def document(height: float, title: str, parts: list) -> str:
     head = '<svg xmlns="http://www.w3.org/2000/svg" width="%d" height="%s" viewBox="0 0 %d %s" role="img">' % (
         WIDTH, number(height), WIDTH, number(height))
     page = rectangle(0, 0, WIDTH, height, "page")
-    return "\n".join([head, "<title>%s</title>" % escaped(title), "<style>\n%s</style>" % STYLE, page, *parts, "</svg>", ""])
+    name = "<title>%s</title>" % escaped(title)
+    return "\n".join([head, name, "<style>\n%s</style>" % STYLE, page, *parts, "</svg>", ""])

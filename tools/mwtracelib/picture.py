@@ -139,7 +139,8 @@ def draw_rate(view: View, top: float) -> tuple:
     most = max(1.0, *rates)
     steps = ["M%d %s" % (LEFT, drawing.number(bottom))]
     for column, rate in enumerate(rates):
-        steps.append("V%sH%s" % (drawing.number(bottom - RATE_HEIGHT * rate / most), drawing.number(view.x(column + 1))))
+        y, x = bottom - RATE_HEIGHT * rate / most, view.x(column + 1)
+        steps.append("V%sH%s" % (drawing.number(y), drawing.number(x)))
     steps.append("V%sZ" % drawing.number(bottom))
     parts = [
         '<path class="rate" d="%s"/>' % "".join(steps), line(LEFT, top, LEFT, bottom),
@@ -195,10 +196,10 @@ def legend_entries(view: View) -> list:
     most = max((max(row.counts) for row in view.grid.rows.values()), default=0)
     entries = []
     for level, least, largest in drawing.level_ranges(most):
-        text_of_range = format(least, ",")
+        counts = format(least, ",")
         if least < largest:
-            text_of_range += " to " + format(largest, ",")
-        entries.append(("level%d" % level, text_of_range))
+            counts += " to " + format(largest, ",")
+        entries.append(("level%d" % level, counts))
     for kind in (Kind.TRAP, Kind.INTERRUPT):
         if any(key[0] is kind for key in view.grid.marks):
             entries.append((kind.name.lower(), "%s: %s" % (kind.value.decode(), kind.name.lower())))
@@ -213,9 +214,11 @@ def draw_legend(view: View, y: float) -> list:
     x = 20 + CHARACTER * (len(head) + 1)
     for classes, label in entries:
         if classes.startswith("level"):
-            sign = '<path class="%s" stroke-width="12" d="M%s %sh12"/>' % (classes, drawing.number(x), drawing.number(y - 4))
+            sign = '<path class="%s" stroke-width="12" d="M%s %sh12"/>'
+            sign %= classes, drawing.number(x), drawing.number(y - 4)
         else:
-            sign = '<path class="%s" d="M%s %sv12"/>' % (classes, drawing.number(x + 6), drawing.number(y - 10))
+            sign = '<path class="%s" d="M%s %sv12"/>'
+            sign %= classes, drawing.number(x + 6), drawing.number(y - 10)
         parts += [sign, text(x + 18, y, label)]
         x += 18 + CHARACTER * (len(label) + 2)
     return parts

@@ -40,11 +40,10 @@ class Top:
         self.number += 1
         self.retired += retired
         self.cycles += cycles
-        line = Line(cycles, -self.number, retired, what)
         if len(self._lines) < self._most:
-            heapq.heappush(self._lines, line)
-        else:
-            heapq.heappushpop(self._lines, line)
+            heapq.heappush(self._lines, Line(cycles, -self.number, retired, what))
+        elif cycles > self._lines[0].cycles:
+            heapq.heapreplace(self._lines, Line(cycles, -self.number, retired, what))
 
     def lines(self) -> list:
         """The hottest lines, the hottest first."""
@@ -65,9 +64,10 @@ def gathered(tally: Tally, symbols: Symbols, most: int) -> tuple:
     for group, counts in groupby(tally.counts(), key=lambda count: group_of(symbols, count.address)):
         retired, cycles = 0, 0
         for count in counts:
-            retired += count.retired
-            cycles += count.cycles
-            addresses.add(count.retired, count.cycles, count)
+            _, count_retired, count_cycles, _ = count
+            retired += count_retired
+            cycles += count_cycles
+            addresses.add(count_retired, count_cycles, count)
         groups.add(retired, cycles, group)
     return groups, addresses
 
@@ -121,7 +121,8 @@ def return_lines(returns: Returns) -> list:
     if not returns.times:
         return ["no traps and no interrupts"]
     form = "%10s %10s %10s %10s %10s  %s"
-    lines = [form % ("count", "returned", "shortest", "mean", "longest", "trap or interrupt, in cycles until rfid or hrfid")]
+    head = "trap or interrupt, in cycles until rfid or hrfid"
+    lines = [form % ("count", "returned", "shortest", "mean", "longest", head)]
     for (kind, vector), times in sorted(returns.times.items(), key=lambda item: (item[0][1], item[0][0].value)):
         numbers = ("-", "-", "-")
         if times.returned:

@@ -4,7 +4,6 @@ import heapq
 import struct
 import tempfile
 from collections import Counter
-from itertools import groupby
 from operator import itemgetter, sub
 from typing import Iterator, NamedTuple
 
@@ -81,8 +80,9 @@ class Tally:
 
     def _in_memory(self) -> Iterator[Count]:
         """The counts that are in memory, in the order of addresses."""
-        for address in sorted(self._cycles):
-            yield Count(address, self._retired[address], self._cycles[address], self._words.get(address, b""))
+        cycles, retired, words = self._cycles, self._retired.get, self._words.get
+        for address in sorted(cycles):
+            yield Count(address, retired(address, 0), cycles[address], words(address, b""))
 
     def _spill(self) -> None:
         """Writes the counts to a file, and begins anew with the last event's address."""
@@ -100,9 +100,16 @@ class Tally:
             return
         parts = [records(file) for file in self._files]
         # of one address the counts come in the order of the files
-        ordered = heapq.merge(*parts, self._in_memory(), key=ADDRESS)
-        for address, same in groupby(ordered, key=ADDRESS):
-            yield merged(address, list(same))
+        last = None
+        for count in heapq.merge(*parts, self._in_memory(), key=ADDRESS):
+            if last is None or count[0] != last[0]:
+                if last is not None:
+                    yield last
+                last = count
+            else:
+                last = merged(last, count)
+        if last is not None:
+            yield last
 
 
 def records(file) -> Iterator[Count]:
@@ -116,10 +123,7 @@ def records(file) -> Iterator[Count]:
             yield Count(address, retired, cycles, words.rstrip(b"\0"))
 
 
-def merged(address: bytes, counts: list) -> Count:
-    """The counts of one address from several files as one."""
-    if len(counts) == 1:
-        return counts[0]
-    words = [count.words for count in counts if count.words]
-    return Count(address, sum(count.retired for count in counts), sum(count.cycles for count in counts),
-                 words[0] if words else b"")
+def merged(first: Count, second: Count) -> Count:
+    """Two counts of one address as one."""
+    return Count(
+        first.address, first.retired + second.retired, first.cycles + second.cycles, first.words or second.words)

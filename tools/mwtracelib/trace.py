@@ -8,8 +8,8 @@ from typing import Iterator, NamedTuple, Optional
 from mwtracelib.progress import Progress
 
 HEX_DIGITS = b"0123456789abcdef"
-# The bytes that are read at once, so few that what is made of them stays in the processor's caches, and the longest line
-# that is taken.
+# The bytes that are read at once, so few that what is made of them stays in the processor's caches, and the longest
+# line that is taken.
 CHUNK = 1 << 16
 LONGEST_LINE = 1 << 20
 LARGEST_CYCLE = (1 << 64) - 1
@@ -201,7 +201,7 @@ class Trace:
         return BadInput("%s:%d: %s" % (self.name, number, why))
 
     def batches(self) -> Iterator[Batch]:
-        """The events in their order, some thousand at a time. It ends with BadInput where the text isn't a printed run."""
+        """The events in their order, some thousand at a time; BadInput where the text isn't a printed run."""
         with self._file, Progress(self.name) as progress:
             for lines in self._line_batches():
                 batch = self._batch_of(lines)
@@ -309,8 +309,10 @@ class Trace:
         for number, line in enumerate(lines, first):
             fields = line.split(b" ")
             content = bytes_of(fields[2]) if len(fields) == 3 else None
-            if content is None or fields[0] != b"m" or not is_hex(fields[1], ADDRESS_DIGITS) or len(content) > DUMP_LINE:
+            if content is None or fields[0] != b"m" or len(content) > DUMP_LINE:
                 raise self.bad(number, "not a line of a dump")
+            if not is_hex(fields[1], ADDRESS_DIGITS):
+                raise self.bad(number, "not the address of a line of a dump")
             address = int(fields[1], 16)
             if dump and (address != dump[-1][0] + DUMP_LINE or len(dump[-1][1]) != DUMP_LINE):
                 raise self.bad(number, "a line of a dump that doesn't continue the one before")

@@ -3,6 +3,7 @@
 import os
 import shutil
 import subprocess
+import sys
 import tempfile
 import unittest
 
@@ -68,8 +69,9 @@ class ToolTest(unittest.TestCase):
         environment = dict(os.environ)
         if path is not None:
             environment["PATH"] = path + os.pathsep + environment["PATH"]
-        run = subprocess.run([os.path.join(self.folder, "tools", "mwtrace"), *words], input=given, capture_output=True,
-                             cwd=self.folder, env=environment, check=False)
+        tool = os.path.join(self.folder, "tools", "mwtrace")
+        run = subprocess.run([sys.executable, tool, *words], input=given, capture_output=True, cwd=self.folder,
+                             env=environment, check=False)
         return run.returncode, run.stdout.decode(), run.stderr.decode()
 
     def check(self, words, output, status=0):

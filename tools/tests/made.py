@@ -46,12 +46,14 @@ def elf(symbols, order="<", machine=21, extra_sections=()):
     sections = [(0, 0, b"", 0, 0), (names.add(".text"), 1, bytes(16), 0, 0)]
     sections += [(names.add(name), 1, content, 0, 0) for name, content in extra_sections]
     if symbols:
-        sections += [(names.add(".symtab"), 2, table, len(sections) + 1, 24), (names.add(".strtab"), 3, strings.content, 0, 0)]
+        sections.append((names.add(".symtab"), 2, table, len(sections) + 1, 24))
+        sections.append((names.add(".strtab"), 3, strings.content, 0, 0))
     place = names.add(".shstrtab")
     sections.append((place, 3, names.content, 0, 0))
     content, headers = b"", b""
     for name, kind, part, link, entry_size in sections:
-        headers += struct.pack(order + "IIQQQQIIQQ", name, kind, 0, 0, 64 + len(content), len(part), link, 0, 1, entry_size)
+        headers += struct.pack(
+            order + "IIQQQQIIQQ", name, kind, 0, 0, 64 + len(content), len(part), link, 0, 1, entry_size)
         content += part
     start = b"\x7fELF" + bytes([2, 1 if order == "<" else 2, 1]) + bytes(9)
     start += struct.pack(order + "HHIQQQIHHHHHH", 2, machine, 1, 0, 0, 64 + len(content), 0, 64, 56, 0, 64,

@@ -127,7 +127,8 @@ class DiffTest(ToolTest):
 
     def test_long_difference_of_dumps_and_bytes(self):
         dumps = [["m %016x %s" % (32 * number, content * 32) for number in range(20)] for content in ("00", "01")]
-        words = self.pair(made.trace([], "end ran 0", uart="41" * 100, dump=dumps[0]), made.trace([], "end ran 0", dump=dumps[1]))
+        words = self.pair(made.trace([], "end ran 0", uart="41" * 100, dump=dumps[0]),
+                          made.trace([], "end ran 0", dump=dumps[1]))
         _, output, _ = self.run_tool(*words)
         self.assertIn("! %s.. (100 bytes)%s-\n" % ("41" * 16, " " * 2), output)
         self.assertEqual(output.splitlines()[-1], "  (4 more)")

@@ -10,8 +10,9 @@ FUNCTION, OBJECT, SECTION, FILE = 2, 1, 3, 4
 GLOBAL, LOCAL = 1, 0
 ABSOLUTE = 0xFFF1
 SYMBOLS = [
-    ("file.c", 0, 0, FILE, LOCAL, ABSOLUTE), ("", 0x100, 0, SECTION, LOCAL, 1), ("stack_size", 0x104, 0, 0, GLOBAL, ABSOLUTE),
-    ("outside", 0, 0, 0, GLOBAL, 0), ("local", 0x100, 0, 0, LOCAL, 1), ("main", 0x100, 0x10, FUNCTION, GLOBAL, 1),
+    ("file.c", 0, 0, FILE, LOCAL, ABSOLUTE), ("", 0x100, 0, SECTION, LOCAL, 1),
+    ("stack_size", 0x104, 0, 0, GLOBAL, ABSOLUTE), ("outside", 0, 0, 0, GLOBAL, 0),
+    ("local", 0x100, 0, 0, LOCAL, 1), ("main", 0x100, 0x10, FUNCTION, GLOBAL, 1),
     ("kernel", 0xC000000000000000, 0, FUNCTION, LOCAL, 1)]
 EVENTS = [
     "R 0 00000000000000fc 38600001", "R 1 0000000000000100 38600001", "R 2 0000000000000104 04100000 e4a00038",
@@ -131,7 +132,8 @@ class NamesTest(ToolTest):
         for content, why in cases:
             elf = self.write("made.elf", content)
             self.check_refused(["names", trace, "--elf", elf], "mwtrace: made.elf: " + why)
-        self.check_refused(["names", trace, "--elf", "absent"], "mwtrace: cannot read absent: No such file or directory")
+        why = "mwtrace: cannot read absent: No such file or directory"
+        self.check_refused(["names", trace, "--elf", "absent"], why)
 
     def test_refused_nm_texts(self):
         trace = self.trace(EVENTS, "end ran 6")

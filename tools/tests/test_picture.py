@@ -37,6 +37,8 @@ def small_events():
 
 SYMBOLS = [("loop<&>", 0x100, 0, 2, 1, 1), ("decrementer", 0xC000000000000900, 0, 2, 1, 1),
            ("a_name_that_is_too_long_for_its_place", 0xC000000000000C00, 0, 2, 1, 1)]
+# What the UART sent in it: "Hi, <mw> &", a new line, a backslash, and two bytes that are no characters.
+SENT = "48692c203c6d773e20260a5c00ff"
 
 
 class PictureTest(ToolTest):
@@ -56,7 +58,7 @@ class PictureTest(ToolTest):
         return found
 
     def check_kept(self, name, picture):
-        """Checks a picture against the one that is kept in the tests' folder, which was looked at in a browser."""
+        """Checks a picture against the one that is kept beside the tests, which was looked at in a browser."""
         with open(os.path.join(TESTS, "data", name), encoding="utf-8") as file:
             self.assertEqual(picture, file.read())
 
@@ -65,16 +67,17 @@ class PictureTest(ToolTest):
 
     def test_kept_made_run(self):
         elf = self.write("made.elf", made.elf(SYMBOLS, ">"))
-        trace = self.trace(list(small_events()), "end offence 600 fetch 0000000000003000 block 0000000000003000 changed",
-                           uart="48692c203c6d773e20260a5c00ff")
-        self.check_kept("made.svg", self.picture(trace, "--elf", elf))
+        end = "end offence 600 fetch 0000000000003000 block 0000000000003000 changed"
+        run = self.trace(list(small_events()), end, uart=SENT)
+        self.check_kept("made.svg", self.picture(run, "--elf", elf))
 
     def test_texts(self):
         elf = self.write("made.elf", made.elf(SYMBOLS))
-        trace = self.trace(list(small_events()), "end ran 600", uart="48692c203c6d773e20260a5c00ff")
-        texts = self.texts(self.picture(trace, "--elf", elf))
-        for text in ("A run of 600 cycles", "made.txt: 256 events, end ran 600", "loop<&>", "decrementer", "T 0c00 system call: 5",
-                     "I 0900 decrementer: 3", "the UART sent 14 bytes: Hi, <mw> &\\n\\\\\\x00\\xff", "cycles", "events a cycle",
+        run = self.trace(list(small_events()), "end ran 600", uart=SENT)
+        texts = self.texts(self.picture(run, "--elf", elf))
+        for text in ("A run of 600 cycles", "made.txt: 256 events, end ran 600", "loop<&>", "decrementer",
+                     "T 0c00 system call: 5", "I 0900 decrementer: 3",
+                     "the UART sent 14 bytes: Hi, <mw> &\\n\\\\\\x00\\xff", "cycles", "events a cycle",
                      "addresses by function, the low ones above; a cell is 4 bytes and 1 cycle"):
             self.assertIn(text, texts)
 
@@ -82,8 +85,8 @@ class PictureTest(ToolTest):
         texts = self.texts(self.picture(self.trace([], "end ran 0")))
         self.assertEqual(texts, [
             "A run of 0 cycles", "made.txt: 0 events, end ran 0", "retired in a cell:",
-            "addresses, the low ones above; a cell is 4 bytes and 1 cycle", "nothing retired", "1", "events a cycle", "0",
-            "0", "1", "cycles", "the UART sent 0 bytes"])
+            "addresses, the low ones above; a cell is 4 bytes and 1 cycle", "nothing retired", "1", "events a cycle",
+            "0", "0", "1", "cycles", "the UART sent 0 bytes"])
 
     def test_addresses_without_symbols(self):
         texts = self.texts(self.picture("data/wide.txt"))
@@ -131,7 +134,8 @@ class PictureTest(ToolTest):
         if not os.access(program, os.X_OK):
             self.skipTest("the program isn't built")
         examples = os.path.join(TOP, "examples")
-        run = subprocess.run([program, "run", os.path.join(examples, "text.img"), "--cycles", "4331"], capture_output=True, check=True)
+        run = subprocess.run([program, "run", os.path.join(examples, "text.img"), "--cycles", "4331"],
+                             capture_output=True, check=True)
         self.write("text.txt", run.stdout)
         picture = self.picture("text.txt", "--nm", os.path.join(examples, "text.nm"))
         with open(os.path.join(examples, "text.svg"), encoding="utf-8") as file:
