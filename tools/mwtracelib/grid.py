@@ -60,7 +60,7 @@ class Grid:
         self.row_shift = WORD_SHIFT
         self.column_shift = 0
         self.events = empty_columns()
-        # counts by column, by kind and vector
+        # by kind and vector: counts by column, only of columns that have some
         self.marks: dict = {}
         # by address: the row, and the name of the function
         self._kept: dict = {}
@@ -109,14 +109,14 @@ class Grid:
         self.events = halved(self.events)
         for counts in [row.counts for row in self.rows.values()]:
             counts[:] = halved(counts)
-        for counts in self.marks.values():
-            counts[:] = halved(counts)
+        for key, counts in self.marks.items():
+            wider: Counter = Counter()
+            for column, count in counts.items():
+                wider[column >> 1] += count
+            self.marks[key] = wider
 
     def _mark(self, kind: Kind, vector: bytes, column: int) -> None:
-        counts = self.marks.get((kind, vector))
-        if counts is None:
-            counts = self.marks[kind, vector] = empty_columns()
-        counts[column] += 1
+        self.marks.setdefault((kind, vector), Counter())[column] += 1
 
     def _entry(self, address: bytes) -> tuple:
         """The row of an address, which may be new, and the name of its function."""

@@ -103,7 +103,7 @@ def draw_rows(view: View, top: float) -> tuple:
 
 def lanes_of(view: View) -> list:
     """The vectors with most traps or interrupts, in the order of their numbers: kind, vector and counts by column."""
-    most = sorted(view.grid.marks.items(), key=lambda item: (-sum(item[1]), item[0][1]))[:MOST_LANES]
+    most = sorted(view.grid.marks.items(), key=lambda item: (-sum(item[1].values()), item[0][1]))[:MOST_LANES]
     most.sort(key=lambda item: (item[0][1], item[0][0].value))
     return [(kind, vector.decode(), counts) for (kind, vector), counts in most]
 
@@ -112,12 +112,12 @@ def draw_lanes(view: View, top: float) -> tuple:
     """A lane of marks for each vector, and where the last one ends."""
     parts = []
     for kind, vector, counts in lanes_of(view):
-        whole = "%s: %s" % (vector_text(kind, vector), format(sum(counts), ","))
+        whole = "%s: %s" % (vector_text(kind, vector), format(sum(counts.values()), ","))
         # T or I, as in the printed run, where the whole has the word
         label = "%s %s" % (kind.value.decode(), whole.split(" ", 1)[1])
         parts.append(text(LEFT - 8, top + LANE - 5, cut(label, LABEL_CHARACTERS), "end", whole))
         marks = "".join("M%s %sv%d" % (drawing.number(view.x(column + 0.5)), drawing.number(top + 3), LANE - 6)
-                        for column, count in enumerate(counts) if count)
+                        for column in sorted(counts))
         parts.append('<path class="%s" d="%s"/>' % (kind.name.lower(), marks))
         top += LANE
         parts.append(line(LEFT, top, LEFT + PLOT, top))

@@ -124,7 +124,7 @@ class PictureTest(ToolTest):
             others += len(batch.letters) - batch.letters.count(b"R")
         cells.close(run.ending.cycle)
         self.assertEqual(sum(sum(row.counts) for row in cells.rows.values()), retired)
-        self.assertEqual(sum(sum(counts) for counts in cells.marks.values()), others)
+        self.assertEqual(sum(sum(counts.values()) for counts in cells.marks.values()), others)
         self.assertEqual(sum(cells.events), retired + others)
         self.assertGreater(others, 0)
         self.assertLessEqual(len(cells.rows), grid.ROWS)
