@@ -3,7 +3,7 @@
 import heapq
 import sys
 from itertools import groupby
-from typing import NamedTuple
+from typing import NamedTuple, Optional
 
 from mwtracelib.disassembly import statements
 from mwtracelib.returns import Returns, vector_text
@@ -50,7 +50,7 @@ class Top:
         return sorted(self._lines, reverse=True)
 
 
-def group_of(symbols: Symbols, address: bytes) -> str:
+def group_of(symbols: Optional[Symbols], address: bytes) -> str:
     """The function of an address, or its block where there are no symbols."""
     if symbols is None:
         return "%016x" % (int(address, 16) & -BLOCK)
@@ -58,7 +58,7 @@ def group_of(symbols: Symbols, address: bytes) -> str:
     return "-" if place is None else place.symbol.name
 
 
-def gathered(tally: Tally, symbols: Symbols, most: int) -> tuple:
+def gathered(tally: Tally, symbols: Optional[Symbols], most: int) -> tuple:
     """The hottest groups, and the hottest addresses."""
     groups, addresses = Top(most), Top(most)
     for group, counts in groupby(tally.counts(), key=lambda count: group_of(symbols, count.address)):
@@ -96,14 +96,14 @@ def group_lines(groups: Top, title: str, cycles: int) -> list:
     return lines
 
 
-def address_text(count: Count, statement: str, symbols: Symbols) -> list:
+def address_text(count: Count, statement: str, symbols: Optional[Symbols]) -> list:
     """What the table says of an address behind its numbers, part by part."""
     place = symbols.place(count.address) if symbols is not None else None
     name = "" if symbols is None else "-" if place is None else place.text()
     return [count.address.decode(), count.words.decode() or "-", statement, name]
 
 
-def address_lines(addresses: Top, symbols: Symbols, cycles: int) -> list:
+def address_lines(addresses: Top, symbols: Optional[Symbols], cycles: int) -> list:
     """The table of the hottest addresses. The statements have a column where there are some."""
     shown = addresses.lines()
     found = statements([(line.what.address, line.what.words) for line in shown])
@@ -116,7 +116,7 @@ def address_lines(addresses: Top, symbols: Symbols, cycles: int) -> list:
     return lines
 
 
-def return_lines(returns: Returns) -> list:
+def time_lines(returns: Returns) -> list:
     """The table of traps and interrupts, with their times until rfid or hrfid."""
     if not returns.times:
         return ["no traps and no interrupts"]
@@ -128,6 +128,12 @@ def return_lines(returns: Returns) -> list:
         if times.returned:
             numbers = (times.shortest, "%.1f" % (times.total / times.returned), times.longest)
         lines.append(form % (times.count, times.returned, *numbers, vector_text(kind, vector)))
+    return lines
+
+
+def return_lines(returns: Returns) -> list:
+    """That table, and behind it what has no return, and the returns that have nothing to come back from."""
+    lines = time_lines(returns)
     for kind, vector, cycle in returns.waiting(MOST_WAITING):
         lines.append("no return: %s at cycle %d" % (vector_text(kind, vector), cycle))
     more = returns.waiting_count() - MOST_WAITING

@@ -142,6 +142,10 @@ class ProfileTest(ToolTest):
         self.assertEqual(output.splitlines()[-2:], [
             "         1          1          1        1.0          1  trap 0700 program",
             "returns without a trap or an interrupt: 1"])
+        trace = self.trace(["R 3 0000000000000000 4c000224"], "end ran 4")
+        _, output, _ = self.run_tool("profile", trace)
+        self.assertEqual(output.splitlines()[-2:], [
+            "no traps and no interrupts", "returns without a trap or an interrupt: 1"])
 
     def test_many_without_a_return(self):
         trace = self.trace(["T %d 0000000000000000 0700" % cycle for cycle in range(8)], "end ran 8")
