@@ -191,6 +191,9 @@ fn privileged_rows_are_refused_in_problem_state(rt: HostRuntime) {
         0x7c68_02a6, // mfspr r3,8
         0x7c60_05e6, // darn r3,0
     ] {
-        assert!(rt; !is_refused(outcome_in(problem, word, 0, [0, 8], 0)), "{word:x}");
+        assert!(rt;
+            !is_refused(outcome_in(problem, word, 0, [0, 8], 0)),
+            "{word:x}"
+        );
     }
 }

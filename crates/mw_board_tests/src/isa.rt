@@ -62,7 +62,10 @@ fn operations_go_by_the_table(rt: HostRuntime) {
         (114, Operation::Trap(TrapRow::TrapRegister { long: false })),
         (116, Operation::Pick(PickRow::Select)),
         (196, Operation::Call),
-        (197, system(SystemWhat::Return { hypervisor: false }, Privilege::Always)),
+        (
+            197,
+            system(SystemWhat::Return { hypervisor: false }, Privilege::Always),
+        ),
         (200, system(SystemWhat::Sync, Privilege::Heavy)),
         (212, alu(AluOp::Paddi, Inputs::Relative)),
         (223, Operation::Hint),

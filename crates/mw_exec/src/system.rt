@@ -79,13 +79,7 @@ fn system_effect(
 
 /// What the rows of the system come to (Book II, synchronization; Book III, interrupts, registers by number,
 /// translation): what they ask for, or an interrupt where they are privileged.
-pub fn system_of(
-    row: SystemRow,
-    insn: &Insn,
-    operands: &Operands,
-    cia: u64,
-    outcome: &mut Outcome,
-)
+pub fn system_of(row: SystemRow, insn: &Insn, operands: &Operands, cia: u64, outcome: &mut Outcome)
     requires row { insn.now.row < row_count }
     requires registers { HasRegisters insn.now (places_of (Operation.System row)) }
     requires limits { AreLimited insn.now 0 (system_roles row.what) }
