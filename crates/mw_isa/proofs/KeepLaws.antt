@@ -1,5 +1,5 @@
 -- What an instruction leaves as it was.
-use Rattle.std.proofs.Common.{◌≡◌, ◌≢◌, ℕ, zero, suc, ◌/◌, ◌^◌, ◌<◌, ◌≤◌, Bool, true, false, not, ◌&&◌, cond, List, [], ◌∷◌, ◌++◌, Option, Some, None, Result, Ok, Err, IfSome, option_map, slice_get, refl, sym, ap, ◌∙◌, subst, arith}
+use Rattle.std.proofs.Common.{◌≡◌, ◌≢◌, ℕ, zero, suc, ◌<◌, ◌≤◌, Bool, true, false, not, ◌&&◌, cond, List, [], ◌∷◌, ◌++◌, Option, Some, None, Result, Ok, Err, IfSome, option_map, slice_get, refl, sym, ap, ◌∙◌, subst, arith}
 use Rattle.std.specs.Option.{option_map_or}
 use Rattle.std.proofs.lemmas.Bool.{not-true}
 use Rattle.mw_decode.specs.declared.insn.Insn.{Insn}
@@ -44,28 +44,11 @@ use Rattle.mw_isa.specs.Special.{bo_of, fields_in, slots_in}
 use Rattle.mw_isa.specs.Sprs.{read_of}
 use Rattle.mw_isa.specs.Step.{written}
 use Rattle.mw_isa.specs.Storage.{access_targets, accessed, is_reserved, loads, reserve_behind, stored_bytes, stores}
-use Rattle.mw_isa.specs.System.{regs_reading}
+use Rattle.mw_isa.specs.System.{regs_reading, system_part}
 use Rattle.mw_isa.specs.Targets.{access_slots, asked_slots, targets_by, targets_of, update_slots, written_slots}
 use Rattle.mw_isa.proofs.ReadLaws.{access-slots, exec-targets, finished-slots}
 use Rattle.mw_isa.proofs.RowLaws.{limited, registers}
 use Rattle.mw_isa.proofs.SlotLaws.{get-set-other}
-
--- the registers that aren't read and written by name, CIA and the reservation aside
-pub record SystemPart : Type 0 where
-  pub msr : ℕ
-  pub srr0 : ℕ
-  pub srr1 : ℕ
-  pub hsrr0 : ℕ
-  pub hsrr1 : ℕ
-  pub dar : ℕ
-  pub dsisr : ℕ
-  pub pidr : ℕ
-  pub sprg : List ℕ
-  pub hsprg : List ℕ
-  pub prtbl : ℕ
-
-abbrev pub system_part : Regs → SystemPart
-system_part regs = record { msr = regs.msr; srr0 = regs.srr0; srr1 = regs.srr1; hsrr0 = regs.hsrr0; hsrr1 = regs.hsrr1; dar = regs.dar; dsisr = regs.dsisr; pidr = regs.pidr; sprg = regs.sprg; hsprg = regs.hsprg; prtbl = regs.prtbl }
 
 -- to set a register by name leaves them
 part-slot : (regs : Regs) (slot : Slot) (value : ℕ) → system_part (set_slot regs slot value) ≡ system_part regs
@@ -242,10 +225,6 @@ ram-stays insn operation o cia outcome placed state at calm e =
 are-append : (slots others : List Slot) → AreSlots slots → AreSlots others → AreSlots (slots ++ others)
 are-append [] others a b = b
 are-append (slot ∷ slots) others a b = (a.0, are-append slots others a.1 b)
-
-are-in : (slot : Option Slot) → IfSome slot IsSlot → AreSlots (slots_in slot)
-are-in None is = tt
-are-in (Some slot) is = (is, tt)
 
 are-if : (asked : Bool) (slot : Slot) → IsSlot slot → AreSlots (slots_in (slot_if asked slot))
 are-if true slot is = (is, tt)

@@ -1,5 +1,5 @@
 -- What the instructions of the system do (Book II, synchronization; Book III, interrupts, registers by number).
-use Rattle.std.specs.Prelude.{ℕ, ◌==◌, Bool, true, false, if◌then◌else◌, Option, Some, None, option_map, Result, Ok, Err}
+use Rattle.std.specs.Prelude.{ℕ, ◌==◌, Bool, true, false, if◌then◌else◌, List, Option, Some, None, option_map, Result, Ok, Err}
 use Rattle.mw_isa.specs.declared.access.Deed.{Deed}
 use Rattle.mw_isa.specs.declared.access.Deed.TheVariants.{Plain, Tlbie as GivesUp, Sync as Synchronizes, NewTable}
 use Rattle.mw_isa.specs.declared.numbered.Numbered.{Numbered}
@@ -85,3 +85,21 @@ system_deed (Return hypervisor) = Synchronizes
 system_deed (Tlbie scope) = GivesUp scope
 system_deed (Sync l) = if l == 2 then Synchronizes else Plain
 system_deed Isync = Synchronizes
+
+-- the registers that aren't read and written by name, CIA and the reservation aside
+pub record SystemPart : Type 0 where
+  pub msr : ℕ
+  pub srr0 : ℕ
+  pub srr1 : ℕ
+  pub hsrr0 : ℕ
+  pub hsrr1 : ℕ
+  pub dar : ℕ
+  pub dsisr : ℕ
+  pub pidr : ℕ
+  pub sprg : List ℕ
+  pub hsprg : List ℕ
+  pub prtbl : ℕ
+
+-- they of all registers
+abbrev pub system_part : Regs → SystemPart
+system_part regs = record { msr = regs.msr; srr0 = regs.srr0; srr1 = regs.srr1; hsrr0 = regs.hsrr0; hsrr1 = regs.hsrr1; dar = regs.dar; dsisr = regs.dsisr; pidr = regs.pidr; sprg = regs.sprg; hsprg = regs.hsprg; prtbl = regs.prtbl }
