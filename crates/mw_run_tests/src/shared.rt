@@ -77,13 +77,13 @@ pub fn push_left(text: &mut String, cycles: u64, left: &Left) -> Result<(), Allo
 }
 
 /// Appends the lines from the end's on, of a run that took no interrupt and left CR 0.
-pub fn push_state(
+pub fn push_state<'l>(
     text: &mut String,
     cycles: u64,
-    set: &[(usize, &str)],
-    cia: &str,
-    dec: &str,
-    uart: &str,
+    set: &'l [(usize, &'l str)],
+    cia: &'l str,
+    dec: &'l str,
+    uart: &'l str,
 ) -> Result<(), AllocError> {
     let left = Left {
         set,
