@@ -43,13 +43,13 @@ fn push_words(image: &mut Vec<u8>, words: &[u32]) -> Result<(), AllocError> {
 const PLACES: [&str; 7] = ["00", "04", "08", "0c", "10", "14", "18"];
 
 /// The text of so many cycles of these words and b ., with the registers, the decrementer and what the UART sent.
-fn text_of_arrival(
+fn text_of_arrival<'l>(
     alloc: Global,
     words: &[u32],
     cycles: u64,
-    set: &[(usize, &str)],
-    dec: &str,
-    uart: &str,
+    set: &'l [(usize, &'l str)],
+    dec: &'l str,
+    uart: &'l str,
 ) -> Result<String, AllocError> {
     let mut text = String::new(alloc);
     for ((cycle, word), place) in words.iter().enumerate().zip(&PLACES) {
