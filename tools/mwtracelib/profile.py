@@ -2,13 +2,12 @@
 
 import heapq
 import sys
-from itertools import groupby
 from typing import NamedTuple, Optional
 
 from mwtracelib.disassembly import statements
 from mwtracelib.returns import Returns, vector_text
-from mwtracelib.symbols import Symbols, symbols_of
-from mwtracelib.tally import Count, Tally
+from mwtracelib.symbols import Symbols, digits_of, symbols_of
+from mwtracelib.tally import Count, Tally, count_of
 from mwtracelib.trace import Trace
 
 BLOCK = 64
@@ -50,24 +49,33 @@ class Top:
         return sorted(self._lines, reverse=True)
 
 
-def group_of(symbols: Optional[Symbols], address: bytes) -> str:
-    """The function of an address, or its block where there are no symbols."""
+def group_of(symbols: Optional[Symbols], address: bytes) -> tuple:
+    """The function of an address, or its block where there are no symbols, and the first address that can have another."""
     if symbols is None:
-        return "%016x" % (int(address, 16) & -BLOCK)
+        block = int(address, 16) & -BLOCK
+        return "%016x" % block, digits_of(block + BLOCK)
     place = symbols.place(address)
-    return "-" if place is None else place.symbol.name
+    return "-" if place is None else place.symbol.name, symbols.bound(address)
 
 
 def gathered(tally: Tally, symbols: Optional[Symbols], most: int) -> tuple:
     """The hottest groups, and the hottest addresses."""
     groups, addresses = Top(most), Top(most)
-    for group, counts in groupby(tally.counts(), key=lambda count: group_of(symbols, count.address)):
-        retired, cycles = 0, 0
-        for count in counts:
-            _, count_retired, count_cycles, _ = count
-            retired += count_retired
-            cycles += count_cycles
-            addresses.add(count_retired, count_cycles, count)
+    group, bound = None, b""
+    retired, cycles = 0, 0
+    for count in tally.counts():
+        address, _, count_retired, count_cycles, _ = count
+        if address >= bound:
+            # what stood behind the bound can still be of the same name
+            name, bound = group_of(symbols, address)
+            if name != group:
+                if group is not None:
+                    groups.add(retired, cycles, group)
+                group, retired, cycles = name, 0, 0
+        retired += count_retired
+        cycles += count_cycles
+        addresses.add(count_retired, count_cycles, count)
+    if group is not None:
         groups.add(retired, cycles, group)
     return groups, addresses
 
@@ -105,7 +113,7 @@ def address_text(count: Count, statement: str, symbols: Optional[Symbols]) -> li
 
 def address_lines(addresses: Top, symbols: Optional[Symbols], cycles: int) -> list:
     """The table of the hottest addresses. The statements have a column where there are some."""
-    shown = addresses.lines()
+    shown = [line._replace(what=count_of(line.what)) for line in addresses.lines()]
     found = statements([(line.what.address, line.what.words) for line in shown])
     has_statements = any(found)
     form = "%s %-17s %-24s %s" if has_statements else "%s %-8s %s%s"

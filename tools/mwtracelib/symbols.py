@@ -7,6 +7,8 @@ from mwtracelib.elf import read_symbols
 from mwtracelib.source_lines import SourceLines
 from mwtracelib.trace import HEX_DIGITS, BadInput
 
+# What stands behind each address of 16 digits.
+BEHIND_ALL = b"g"
 # nm's letters of symbols that are no places: absolute numbers, debugging, undefined ones.
 NO_PLACE = "AaNnUuvw"
 
@@ -52,6 +54,21 @@ class Symbols:
         if symbol.size and offset >= symbol.size:
             return None
         return Place(symbol, offset)
+
+    def bound(self, address: bytes) -> bytes:
+        """The first address behind this one that can have another symbol, or none."""
+        number = int(address, 16)
+        index = bisect_right(self._addresses, number)
+        bound = self._addresses[index] if index < len(self._addresses) else 1 << 64
+        place = self.place(address)
+        if place is not None and place.symbol.size:
+            bound = min(bound, place.symbol.address + place.symbol.size)
+        return digits_of(bound)
+
+
+def digits_of(number: int) -> bytes:
+    """The 16 digits of an address, or what stands behind all of them where there is no such address."""
+    return b"%016x" % number if number < 1 << 64 else BEHIND_ALL
 
 
 def symbols_of_nm(path: str) -> Symbols:

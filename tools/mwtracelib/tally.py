@@ -4,15 +4,17 @@ import heapq
 import struct
 import tempfile
 from collections import Counter
-from operator import itemgetter, sub
+from itertools import chain, repeat, starmap
+from operator import sub
 from typing import Iterator, NamedTuple
 
 from mwtracelib.trace import RETIRED, Batch
 
 # The most addresses in memory, which take some 60 MB.
 MOST_IN_MEMORY = 150_000
-# An address, its retired instructions and cycles, and its words, filled with zero bytes.
-RECORD = struct.Struct(">16sQQ17s")
+# An address, the number of the file, the address's retired instructions and cycles, and its words, filled with zero
+# bytes.
+RECORD = struct.Struct(">16sIQQ17s")
 RECORDS_AT_ONCE = 1024
 
 
@@ -22,9 +24,6 @@ class Count(NamedTuple):
     retired: int
     cycles: int
     words: bytes
-
-
-ADDRESS = itemgetter(0)
 
 
 class Tally:
@@ -78,52 +77,55 @@ class Tally:
         else:
             self._cycles[self._last_address] += cycles - self._last_cycle
 
-    def _in_memory(self) -> Iterator[Count]:
-        """The counts that are in memory, in the order of addresses."""
-        cycles, retired, words = self._cycles, self._retired.get, self._words.get
-        for address in sorted(cycles):
-            yield Count(address, retired(address, 0), cycles[address], words(address, b""))
+    def _in_memory(self) -> Iterator[tuple]:
+        """The counts that are in memory, as the parts of records, in the order of addresses."""
+        addresses = sorted(self._cycles)
+        return zip(
+            addresses, repeat(len(self._files)), map(self._retired.get, addresses, repeat(0)),
+            map(self._cycles.get, addresses), map(self._words.get, addresses, repeat(b"")))
 
     def _spill(self) -> None:
         """Writes the counts to a file, and begins anew with the last event's address."""
         file = tempfile.TemporaryFile(prefix="mwtrace")
-        file.writelines(RECORD.pack(*count) for count in self._in_memory())
+        file.writelines(starmap(RECORD.pack, self._in_memory()))
         self._files.append(file)
         self._cycles = {self._last_address: 0}
         self._retired = Counter()
         self._words = {}
 
-    def counts(self) -> Iterator[Count]:
-        """Each address once, in ascending order."""
+    def counts(self) -> Iterator[tuple]:
+        """The count of each address as the parts of a record, in ascending order."""
         if not self._files:
             yield from self._in_memory()
             return
         parts = [records(file) for file in self._files]
         # of one address the counts come in the order of the files
-        last = None
-        for count in heapq.merge(*parts, self._in_memory(), key=ADDRESS):
-            if last is None or count[0] != last[0]:
-                if last is not None:
-                    yield last
+        ordered = heapq.merge(*parts, self._in_memory())
+        last = next(ordered)
+        for count in ordered:
+            if count[0] != last[0]:
+                yield last
                 last = count
             else:
                 last = merged(last, count)
-        if last is not None:
-            yield last
+        yield last
 
 
-def records(file) -> Iterator[Count]:
-    """The counts in a file."""
+def records(file) -> Iterator[tuple]:
+    """The parts of the records in a file."""
     file.seek(0)
-    while True:
-        part = file.read(RECORD.size * RECORDS_AT_ONCE)
-        if not part:
-            return
-        for address, retired, cycles, words in RECORD.iter_unpack(part):
-            yield Count(address, retired, cycles, words.rstrip(b"\0"))
+    parts = iter(lambda: file.read(RECORD.size * RECORDS_AT_ONCE), b"")
+    return chain.from_iterable(map(RECORD.iter_unpack, parts))
 
 
-def merged(first: Count, second: Count) -> Count:
-    """Two counts of one address as one."""
-    return Count(
-        first.address, first.retired + second.retired, first.cycles + second.cycles, first.words or second.words)
+def merged(first: tuple, second: tuple) -> tuple:
+    """Two counts of one address, of which the first is the earlier, as one."""
+    address, number, retired, cycles, words = first
+    _, _, later_retired, later_cycles, later_words = second
+    return address, number, retired + later_retired, cycles + later_cycles, words.rstrip(b"\0") or later_words
+
+
+def count_of(parts: tuple) -> Count:
+    """The count that has these parts of a record, its words without the zero bytes that fill them."""
+    address, _, retired, cycles, words = parts
+    return Count(address, retired, cycles, words.rstrip(b"\0"))

@@ -169,7 +169,7 @@ class ProfileTest(ToolTest):
             for batch in run.batches():
                 counter.add(batch)
             counter.close(run.ending.cycle)
-            counts.append(list(counter.counts()))
+            counts.append([tally.count_of(parts) for parts in counter.counts()])
         self.assertEqual(counts[0], counts[1])
         self.assertEqual(len(counts[0]), 5_000)
         self.assertEqual(sum(count.retired for count in counts[0]), 20_000)
