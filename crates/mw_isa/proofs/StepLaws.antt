@@ -180,7 +180,7 @@ one-cycle false x y cycle p q = q
 
 -- a load leaves the devices' cycle
 loaded-cycle : (what : MemWhat) (at : Stretches) (devices : DeviceData) → cycle_of (devices_loaded what at devices) ≡ cycle_of devices
-loaded-cycle (Load signed reversed reserve) at devices = one-cycle (is_in_ram at) devices _ (cycle_of devices) refl (cycle-device_load devices _)
+loaded-cycle (Load signed reversed reserve) at devices = one-cycle (is_in_ram at) devices _ (cycle_of devices) refl (cycle-device_load devices _ _)
 loaded-cycle (Store reversed) at devices = refl
 loaded-cycle (Conditional reversed) at devices = refl
 loaded-cycle Zero at devices = refl

@@ -27,7 +27,7 @@ use Rattle.mw_isa.specs.Reads.{operands_of}
 use Rattle.mw_isa.specs.Long.{IsStarted, result_of}
 use Rattle.mw_isa.specs.Execute.{exec_of, behind_insn}
 use Rattle.mw_isa.specs.Finish.{finished}
-use Rattle.mw_isa.specs.Storage.{IsSized, OnMemory, IsPlaced, pages_of, accessed, raises_alignment, reaches_controller, deed_by}
+use Rattle.mw_isa.specs.Storage.{IsSized, OnMemory, IsPlaced, pages_of, accessed, raises_alignment, deed_by}
 use Rattle.mw_isa.specs.Raises.{Placed, access_raises, earlier, fetch_raises, outcome_raises, words_raise}
 use Rattle.mw_isa.specs.Take.{taken}
 use Rattle.mw_isa.specs.Msr.{bit_at, prefixed_place}
@@ -110,10 +110,10 @@ first_raised it view msr =
 abbrev pub raises_of : UnderWay → (Slot → ℕ) → ℕ → Option Raised
 raises_of it view msr = option_map (marked it.words) (first_raised it view msr)
 
--- an outcome that is built: the pages of its access, if it has one, have no fault, and none of its bytes is one of the
--- interrupt controller; the MSR that it leaves lets no external interrupt be taken and no address be translated
+-- an outcome that is built: the pages of its access, if it has one, have no fault; the MSR that it leaves lets no external
+-- interrupt be taken and no address be translated
 abbrev pub is_built_outcome : Outcome → Option Placed → Regs → Bool
-is_built_outcome (Memory op) (Some (Ok at)) regs = not (reaches_controller at)
+is_built_outcome (Memory op) (Some (Ok at)) regs = true
 is_built_outcome (Memory op) (Some (Err fault)) regs = false
 is_built_outcome (Memory op) None regs = false
 is_built_outcome (System op) placed regs = not (system_opens op regs)

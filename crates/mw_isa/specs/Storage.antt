@@ -1,7 +1,7 @@
 -- An access to storage (Book I, storage operands; Book II, atomic update, cache management and the reservation). Which
 -- accesses raise an alignment interrupt, and the blocks of 64 bytes, are this board's own choice; Book III has what the
 -- interrupt is.
-use Rattle.std.specs.Prelude.{ℕ, ◌≡◌, ◌+◌, ◌-◌, ◌*◌, ◌/◌, ◌%◌, ◌^◌, ◌<◌, ◌==◌, Bool, true, false, not, ◌&&◌, ◌||◌, if◌then◌else◌, nat_lt, List, [], ◌∷◌, replicate, Option, Some, None, IfSome, is_some}
+use Rattle.std.specs.Prelude.{ℕ, ◌≡◌, ◌+◌, ◌-◌, ◌*◌, ◌/◌, ◌%◌, ◌^◌, ◌<◌, ◌==◌, Bool, true, false, not, ◌&&◌, ◌||◌, if◌then◌else◌, List, [], ◌∷◌, replicate, Option, Some, None, IfSome, is_some}
 use Rattle.std.specs.Int.{from_bool}
 use Rattle.std.specs.Option.{option_map_or}
 use Rattle.mw_bits.specs.Fields.{sext_of}
@@ -95,14 +95,6 @@ is_misplaced op at = not (is_in_ram at) && (not (is_aligned op) || needs_ram op.
 abbrev pub raises_alignment : MemOp → Stretches → Bool
 raises_alignment op at = is_unaligned_exclusive op || is_misplaced op at
 
--- a stretch has a byte in the interrupt controller, from 0xC0004000 to 0xC0005FFF
-abbrev pub is_controller : Stretch → Bool
-is_controller stretch = nat_lt stretch.at 0xC000_6000 && nat_lt 0xC000_4000 (stretch.at + stretch.len)
-
--- an access has a byte there
-abbrev pub reaches_controller : Stretches → Bool
-reaches_controller at = is_controller at.first || option_map_or is_controller at.second false
-
 -- the number of the real 64-byte block in which an access begins
 abbrev pub block_of : Stretches → ℕ
 block_of at = at.first.at / 64
@@ -184,7 +176,7 @@ ram_behind what op at reserved ram = if stores what reserved && is_in_ram at the
 
 -- the devices behind a load, which one of them sees where RAM isn't
 abbrev pub devices_loaded : MemWhat → Stretches → DeviceData → DeviceData
-devices_loaded (Load signed reversed reserve) at devices = if is_in_ram at then devices else after_device_load devices at.first.at
+devices_loaded (Load signed reversed reserve) at devices = if is_in_ram at then devices else after_device_load devices at.first.at at.first.len
 devices_loaded what at devices = devices
 
 -- the devices behind a store, which one of them sees where RAM isn't

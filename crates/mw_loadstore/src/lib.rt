@@ -12,6 +12,6 @@ mod store;
 pub use access::{Piece, merge, pieces};
 pub use address::{block_of, is_in_ram, pages_of};
 pub use load::loaded_number;
-pub use raised::{access_raises, reaches_controller};
+pub use raised::access_raises;
 pub use registers::{is_reserved, regs_behind};
 pub use store::{pieces_in, stored_bytes, stores};

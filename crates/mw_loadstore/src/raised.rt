@@ -1,10 +1,10 @@
 ghost use Rattle.std.specs.Prelude.{◌≡◌, ◌≤◌, IfSome};
 ghost use Rattle.mw_isa.specs.Raises.{access_raises, place_raises};
-ghost use Rattle.mw_isa.specs.Storage.{IsSized, is_aligned, is_controller, is_exclusive, is_misplaced, is_unaligned_exclusive, needs_ram, reaches_controller};
+ghost use Rattle.mw_isa.specs.Storage.{IsSized, is_aligned, is_exclusive, is_misplaced, is_unaligned_exclusive, needs_ram};
 ghost use Rattle.mw_isa.specs.Take.{IsUnmarked};
 
 use crate::address::is_in_ram;
-use mw_isa::{MemOp, MemWhat, Outcome, PageFault, Raised, Stretch, Stretches, misaligned, raising};
+use mw_isa::{MemOp, MemWhat, Outcome, PageFault, Raised, Stretches, misaligned, raising};
 
 /// Whether the address of an access is a multiple of its length.
 fn is_aligned(op: &MemOp) -> bool
@@ -89,22 +89,5 @@ pub fn access_raises(op: &MemOp, placed: &Result<Stretches, PageFault>) -> Optio
         Some(misaligned(op.ea))
     } else {
         place_raises(op, placed)
-    }
-}
-
-/// Whether a stretch has a byte in the interrupt controller.
-fn is_controller(stretch: &Stretch) -> bool
-    ensures { result ≡ is_controller stretch.now }
-{
-    stretch.at < 0xC000_6000 && 0xC000_4000 - u64::from(stretch.len) < stretch.at
-}
-
-/// Whether an access has a byte in the interrupt controller, from 0xC0004000 to 0xC0005FFF. It can't fail.
-pub fn reaches_controller(at: &Stretches) -> bool
-    ensures { result ≡ reaches_controller at.now }
-{
-    match at.second {
-        None => is_controller(&at.first),
-        Some(second) => is_controller(&at.first) || is_controller(&second),
     }
 }

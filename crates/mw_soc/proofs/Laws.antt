@@ -4,11 +4,12 @@ use Rattle.std.proofs.lemmas.Bool.{cond_both, eqb-true}
 use Rattle.std.proofs.lemmas.List.{length-replicate}
 use Rattle.mw_uart.specs.UartData.{UartData, Roomy}
 use Rattle.mw_uart.specs.UartAt.{uart_at}
-use Rattle.mw_uart.specs.Registers.{after_load, after_store}
+use Rattle.mw_uart.specs.Registers.{after_load, after_store, line_of}
 use Rattle.mw_uart.proofs.Laws.{cycle-uart_at, cycle-after_load, cycle-after_store, length-loaded, uart_at-then, uart_at-rising, brought_by, Rises, last_of}
+use Rattle.mw_xics.proofs.Laws.{length-xics_loaded}
 use Rattle.mw_soc.specs.DeviceData.{DeviceData, Housed}
 use Rattle.mw_soc.specs.Devices.{cycle_of, devices_at}
-use Rattle.mw_soc.specs.Map.{is_uart, is_system, system_loaded, device_loaded, after_device_load, after_device_store}
+use Rattle.mw_soc.specs.Map.{is_uart, is_xics, is_system, system_loaded, device_loaded, after_device_load, after_device_store}
 
 -- the devices with another UART
 abbrev with_uart : DeviceData → UartData → DeviceData
@@ -24,23 +25,28 @@ one-cycle true x y cycle p q = p
 one-cycle false x y cycle p q = q
 
 -- a load leaves the cycle
-pub cycle-device_load : (devices : DeviceData) (at : ℕ) → cycle_of (after_device_load devices at) ≡ cycle_of devices
+pub cycle-device_load : (devices : DeviceData) (at width : ℕ) → cycle_of (after_device_load devices at width) ≡ cycle_of devices
 unfolding after_device_load
-cycle-device_load devices at = one-cycle (is_uart at) _ devices (cycle_of devices) (cycle-after_load devices.uart _) refl
+cycle-device_load devices at width =
+    one-cycle (is_uart at) _ _ (cycle_of devices) (cycle-after_load devices.uart _)
+    (one-cycle (is_xics at) _ devices (cycle_of devices) refl refl)
 
 -- and so does a store
 pub cycle-device_store : (devices : DeviceData) (at : ℕ) (bytes : List ℕ) → cycle_of (after_device_store devices at bytes) ≡ cycle_of devices
 unfolding after_device_store
-cycle-device_store devices at bytes = one-cycle (is_uart at) _ devices (cycle_of devices) (cycle-after_store devices.uart _ bytes) refl
+cycle-device_store devices at bytes =
+    one-cycle (is_uart at) _ _ (cycle_of devices) (cycle-after_store devices.uart _ bytes)
+    (one-cycle (is_xics at) _ devices (cycle_of devices) refl refl)
 
 -- a load that lies in one slot of 8 gives as many bytes as its width says
 pub length-device_loaded : (devices : DeviceData) (at width : ℕ) → at % 8 + width ≤ 8 → length (device_loaded devices at width) ≡ width
 unfolding device_loaded system_loaded
 length-device_loaded devices at width fits =
     cond_both (is_uart at) _ _ (λ (bytes : List ℕ). length bytes ≡ width) (λ _. length-loaded devices.uart (at - 0xC000_2000) width (omega arith))
+    (λ _. cond_both (is_xics at) _ _ (λ (bytes : List ℕ). length bytes ≡ width) (λ _. length-xics_loaded devices.xics (at - 0xC000_4000) width (line_of devices.uart))
     (λ _. cond_both (is_system at) _ _ (λ (bytes : List ℕ). length bytes ≡ width)
     (λ _. cond_both (width == 8) _ _ (λ (bytes : List ℕ). length bytes ≡ width) (λ e. sym (eqb-true width 8 e)) (λ _. length-replicate width 0))
-    (λ _. length-replicate width 255))
+    (λ _. length-replicate width 255)))
 
 -- a cycle that isn't after the UART's isn't after that of the UART brought on
 pub kept-advance : (old new : Roomy) (now : Housed) (cycle dec_at : ℕ) → new ≡ record old { uart = uart_at old.uart cycle } → old.uart.cycle ≡ cycle_of now.devices → cycle_of now.devices ≤ cycle → dec_at ≤ old.uart.cycle → dec_at ≤ new.uart.cycle

@@ -1,10 +1,13 @@
 -- The data of the devices.
 use Rattle.std.specs.Prelude.{ℕ}
 use Rattle.mw_uart.specs.UartData.{UartData}
+use Rattle.mw_xics.specs.XicsData.{XicsData}
 
--- the UART, whose cycle is the one that all stand at; what the last write gave the decrementer; and when that was
+-- the UART, whose cycle is the one that all stand at; the interrupt controller; what the last write gave the decrementer;
+-- and when that was
 pub record DeviceData : Type 0 where
   pub uart : UartData
+  pub xics : XicsData
   pub dec : ℕ
   pub dec_at : ℕ
 

@@ -1,7 +1,8 @@
 -- The board's map outside RAM (this board's own).
 use Rattle.std.specs.Prelude.{ℕ, ◌-◌, ◌==◌, Bool, ◌&&◌, if◌then◌else◌, nat_lt, nat_le, List, replicate}
 use Rattle.std.specs.Int.{w64, to_le_bytes}
-use Rattle.mw_uart.specs.Registers.{loaded, after_load, after_store}
+use Rattle.mw_uart.specs.Registers.{loaded, after_load, after_store, line_of}
+use Rattle.mw_xics.specs.Registers.{xics_loaded, after_xics_load, after_xics_store}
 use Rattle.mw_soc.specs.DeviceData.{DeviceData}
 
 -- the system controller stands at a real address
@@ -11,6 +12,10 @@ is_system at = nat_le 0xC000_0000 at && nat_lt at 0xC000_1000
 -- the UART stands there
 abbrev pub is_uart : ℕ → Bool
 is_uart at = nat_le 0xC000_2000 at && nat_lt at 0xC000_3000
+
+-- the interrupt controller stands there, its two pages as one device
+abbrev pub is_xics : ℕ → Bool
+is_xics at = nat_le 0xC000_4000 at && nat_lt at 0xC000_6000
 
 -- the doublewords of the system controller: a signature; 5, for what it has; the bytes of RAM; and the clock in hertz
 abbrev pub system_number : ℕ → ℕ
@@ -29,13 +34,20 @@ system_loaded offset width = if width == 8 then to_le_bytes w64 (system_number o
 unfoldable pub device_loaded : DeviceData → ℕ → ℕ → List ℕ
 device_loaded devices at width =
     if is_uart at then loaded devices.uart (at - 0xC000_2000) width
+    else if is_xics at then xics_loaded devices.xics (at - 0xC000_4000) width (line_of devices.uart)
     else if is_system at then system_loaded (at - 0xC000_0000) width
     else replicate width 255
 
--- the devices after a load outside RAM
-unfoldable pub after_device_load : DeviceData → ℕ → DeviceData
-after_device_load devices at = if is_uart at then record devices { uart = after_load devices.uart (at - 0xC000_2000) } else devices
+-- the devices after a load of a width outside RAM; the controller sees the UART's line as it was before the load
+unfoldable pub after_device_load : DeviceData → ℕ → ℕ → DeviceData
+after_device_load devices at width =
+    if is_uart at then record devices { uart = after_load devices.uart (at - 0xC000_2000) }
+    else if is_xics at then record devices { xics = after_xics_load devices.xics (at - 0xC000_4000) width (line_of devices.uart) }
+    else devices
 
 -- the devices after a store of bytes outside RAM, which vanish where no device takes them
 unfoldable pub after_device_store : DeviceData → ℕ → List ℕ → DeviceData
-after_device_store devices at bytes = if is_uart at then record devices { uart = after_store devices.uart (at - 0xC000_2000) bytes } else devices
+after_device_store devices at bytes =
+    if is_uart at then record devices { uart = after_store devices.uart (at - 0xC000_2000) bytes }
+    else if is_xics at then record devices { xics = after_xics_store devices.xics (at - 0xC000_4000) bytes }
+    else devices

@@ -1,18 +1,21 @@
 ghost use Rattle.std.specs.Prelude.{◌≡◌, ◌+◌, ◌-◌, ◌/◌, ◌%◌, ◌^◌, ◌≤◌, ◌++◌, length, replicate, IfOk};
-ghost use Rattle.mw_soc.specs.Devices.{cycle_of, dec_of, dec_stands, devices_at, start_devices, with_dec};
-ghost use Rattle.mw_soc.specs.Map.{after_device_load, after_device_store, device_loaded, is_system, is_uart};
+ghost use Rattle.mw_soc.specs.Devices.{cycle_of, dec_of, dec_stands, devices_at, external_stands, start_devices, with_dec};
+ghost use Rattle.mw_soc.specs.Map.{after_device_load, after_device_store, device_loaded, is_system, is_uart, is_xics};
 
 use crate::system::system_loaded;
 use mw_uart::{Script, Uart};
+use mw_xics::Xics;
 use std::alloc::{AllocError as NoMemory, Global};
 use std::marker::Model;
 
-/// The devices of the board and the cycle that they stand at: the UART, the system controller and the
-/// decrementer, so far. Clauses see their data and how many bytes of output they have memory for.
+/// The devices of the board and the cycle that they stand at: the UART, the interrupt controller, the system
+/// controller and the decrementer. Clauses see their data and how many bytes of output they have memory for.
 #[derive(Drop)]
 pub struct Devices {
     /// The UART, at the cycle that all stand at.
     uart: Uart,
+    /// The interrupt controller, whose line 0 is the UART's.
+    xics: Xics,
     /// The decrementer as it was last written.
     dec: u32,
     /// The cycle of that writing.
@@ -25,7 +28,7 @@ impl Model for Devices {
 
     ghost Value = { Housed };
 
-    ghost view = { λ d. record { devices = record { uart = d.uart.uart; dec = d.dec; dec_at = d.dec_at }; room = d.uart.room } };
+    ghost view = { λ d. record { devices = record { uart = d.uart.uart; xics = d.xics; dec = d.dec; dec_at = d.dec_at }; room = d.uart.room } };
 
     ghost invariant = { λ d. d.dec_at ≤ d.uart.uart.cycle };
 }
@@ -35,6 +38,13 @@ fn is_uart(at: u64) -> bool
     ensures { result ≡ is_uart at }
 {
     0xC000_2000 <= at && at < 0xC000_3000
+}
+
+/// The interrupt controller stands there.
+fn is_xics(at: u64) -> bool
+    ensures { result ≡ is_xics at }
+{
+    0xC000_4000 <= at && at < 0xC000_6000
 }
 
 /// The system controller stands there.
@@ -56,13 +66,15 @@ fn ones(width: u8) -> [u8; 8]
 
 impl Devices {
     /// The devices at cycle 0, with a script of which no byte has arrived at the UART, with memory for `room`
-    /// bytes of output, and the decrementer at its largest positive number. The only error is want of memory.
+    /// bytes of output, the interrupt controller letting nothing through, and the decrementer at its largest
+    /// positive number. The only error is want of memory.
     pub fn new(alloc: Global, script: Script, room: u64) -> Result<Devices, NoMemory>
         requires { room ≤ 2 ^ 32 }
         ensures { IfOk result (λ d. d ≡ record { devices = start_devices script; room = room }) }
     {
         Ok(Devices {
             uart: Uart::new(alloc, script, room)?,
+            xics: Xics::new(),
             dec: 0x7FFF_FFFF,
             dec_at: 0,
         })
@@ -78,16 +90,19 @@ impl Devices {
     }
 
     /// Loads `width` bytes from a real address outside RAM, with zeros behind them: once, at the devices'
-    /// cycle. Where no device is, they are all ones.
+    /// cycle. Where no device is, they are all ones. The interrupt controller sees the UART's line at that cycle.
     #[tactic(auto, unfolding(crate::specs::Map::device_loaded, crate::specs::Map::after_device_load))]
     pub fn load(&mut self, at: u64, width: u8) -> [u8; 8]
         requires some { 1 ≤ width }
         requires one_slot { at % 8 + width ≤ 8 }
         ensures value { result ≡ device_loaded self.old.devices at width ++ replicate (8 - width) 0 }
-        ensures after { self.new ≡ record self.old { devices = after_device_load self.old.devices at } }
+        ensures after { self.new ≡ record self.old { devices = after_device_load self.old.devices at width } }
     {
         if is_uart(at) {
             self.uart.load((at - 0xC000_2000) as u32, width)
+        } else if is_xics(at) {
+            self.xics
+                .load((at - 0xC000_4000) as u32, width, self.uart.line())
         } else if is_system(at) {
             system_loaded(at - 0xC000_0000, width)
         } else {
@@ -105,6 +120,8 @@ impl Devices {
     {
         if is_uart(at) {
             self.uart.store((at - 0xC000_2000) as u32, bytes);
+        } else if is_xics(at) {
+            self.xics.store((at - 0xC000_4000) as u32, bytes);
         }
     }
 
@@ -137,6 +154,14 @@ impl Devices {
         ensures { result ≡ dec_stands self.now.devices }
     {
         self.dec() >= 0x8000_0000
+    }
+
+    /// Whether the external exception stands: an interrupt is pending at the controller, whose line 0 is the
+    /// UART's (Book III, external interrupt).
+    pub fn external(&self) -> bool
+        ensures { result ≡ external_stands self.now.devices }
+    {
+        self.xics.pending(self.uart.line()).is_some()
     }
 
     /// All bytes that the UART sent.

@@ -1,4 +1,5 @@
-//! The board's devices and their map: the UART, the system controller and the decrementer.
+//! The board's devices and their map: the UART, the interrupt controller, the system controller and
+//! the decrementer.
 #![tactic(auto)]
 
 mod devices;

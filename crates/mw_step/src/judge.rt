@@ -4,7 +4,7 @@ ghost use Rattle.mw_isa.specs.Storage.{IsSized, OnMemory};
 ghost use Rattle.mw_isa.specs.Take.{IsUnmarked};
 
 use mw_isa::{Outcome, PageFault, Raised, Regs, Stretches, raising};
-use mw_loadstore::{access_raises, reaches_controller};
+use mw_loadstore::access_raises;
 use mw_sprs::{system_opens, system_raises};
 
 /// The interrupt that an outcome raises under MSR, if it does: by itself, by the number of a register, or by
@@ -31,9 +31,8 @@ pub fn end_raises(
     }
 }
 
-/// Whether an outcome is built: its access, if it has one, stands in stretches of which no byte is one of the
-/// interrupt controller, and the MSR that it writes lets no external interrupt be taken and no address be
-/// translated.
+/// Whether an outcome is built: its access, if it has one, stands somewhere, and the MSR that it writes lets no
+/// external interrupt be taken and no address be translated.
 pub fn is_built_outcome(
     outcome: &Outcome,
     placed: &Option<Result<Stretches, PageFault>>,
@@ -49,7 +48,7 @@ pub fn is_built_outcome(
         Outcome::Memory(_) => match placed {
             None => false,
             Some(Err(_)) => false,
-            Some(Ok(at)) => !reaches_controller(at),
+            Some(Ok(_)) => true,
         },
     }
 }
