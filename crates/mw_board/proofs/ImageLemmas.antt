@@ -10,6 +10,7 @@ use Rattle.mw_isa.specs.State.{State, brought}
 use Rattle.mw_isa.specs.Start.{start, start_regs}
 use Rattle.mw_isa.specs.Replay.{cycles_of, replay, state_after}
 use Rattle.mw_isa.specs.Unbuilt.{unbuilt_from, first_unbuilt}
+use Rattle.mw_isa.specs.Prompt.{IsPrompt}
 use Rattle.mw_isa.specs.Lively.{IsLively}
 use Rattle.mw_isa.specs.Runs.{Runs}
 use Rattle.mw_board.specs.declared.run.RunFault.{RunFault}
@@ -27,6 +28,7 @@ pub record RunsImage (image : List ℕ) (script : List (ℕ × ℕ)) (n : ℕ) (
   pub rising : IsStrictlyIncreasing (cycles_of events)
   pub below : All (λ cycle. cycle < n) (cycles_of events)
   pub replayed : option_map (brought n) (replay events (start_with image script)) ≡ Some last
+  pub prompt : IsPrompt events (start_with image script)
   pub lively : IsLively events n
 
 -- the first instruction that isn't built, of those that n cycles from the start with an image and a script reach
@@ -48,6 +50,7 @@ runs-image image script n events (Ran cycle) last runs = record {
   rising = runs.rising;
   below = subst (λ (k : ℕ). All (λ (at : ℕ). at < k) (cycles_of events)) runs.stops runs.below;
   replayed = subst (λ (k : ℕ). option_map (brought k) (replay events (start_with image script)) ≡ Some last) runs.stops runs.replayed;
+  prompt = runs.prompt;
   lively = subst (IsLively events) runs.stops runs.lively;
 }
 

@@ -1,5 +1,5 @@
 -- What holds of each row of the table, of registers by name, of what raises an interrupt, of products, of a step, of a
--- replay, of a run's text and of an access.
+-- replay, of interrupts between instructions, of a run's text and of an access.
 pub mod SlotLaws
 pub mod RowLaws
 pub mod ReadLaws
@@ -9,6 +9,7 @@ pub mod KeepLaws
 pub mod LongLaws
 pub mod StepLaws
 pub mod ReplayLaws
+pub mod PromptLaws
 pub mod RunLaws
 pub mod StorageLaws
 pub mod PageLaws

@@ -3,7 +3,7 @@ use Rattle.std.proofs.Common.{◌≡◌, ℕ, Bool, true, false, not, ◌&&◌, 
 use Rattle.mw_decode.specs.declared.insn.Insn.{Insn}
 use Rattle.mw_decode.specs.declared.insn.Decoded.{Decoded}
 use Rattle.mw_decode.specs.declared.insn.Decoded.TheVariants.{Insn as Is, Unavailable, Alignment, Illegal}
-use Rattle.mw_isa.specs.declared.event.Event.TheVariants.{Retire, Trap as Trapped}
+use Rattle.mw_isa.specs.declared.event.Event.TheVariants.{Retire, Trap as Trapped, Irq}
 use Rattle.mw_isa.specs.declared.fetched.Fetched.{Fetched}
 use Rattle.mw_isa.specs.declared.memory.MemOp.{MemOp}
 use Rattle.mw_isa.specs.declared.memory.MemWhat.{MemWhat}
@@ -24,7 +24,10 @@ use Rattle.mw_isa.specs.Raises.{Placed, cut_raised, decoded_raises, earlier, fet
 use Rattle.mw_isa.specs.Vectors.{address_of}
 use Rattle.mw_isa.specs.Words.{insn_in, insn_of, decoded_of}
 use Rattle.mw_isa.specs.declared.regs.Regs.{Regs}
+use Rattle.mw_isa.specs.declared.vector.Vector.{Vector}
 use Rattle.mw_isa.specs.State.{State}
+use Rattle.mw_isa.specs.Choose.{chosen, interrupted}
+use Rattle.mw_isa.specs.Unbuilt.{passed, passed_by}
 use Rattle.mw_isa.specs.Pages.{is_in_ram}
 use Rattle.mw_isa.specs.Fetch.{fetch_at, fetched, is_cut, word_of, suffix_of}
 use Rattle.mw_isa.specs.Slots.{get_slot}
@@ -35,7 +38,7 @@ use Rattle.mw_soc.specs.Devices.{cycle_of}
 use Rattle.mw_soc.proofs.Laws.{cycle-device_load, cycle-device_store}
 use Rattle.mw_isa.specs.Storage.{accessed, is_reserved, stores, devices_loaded, devices_stored}
 use Rattle.mw_isa.specs.Step.{IsKnown, UnderWay, step, under_way, outcome_of, placed_of, written, state_behind, after_of, raises_of, regs_raised, end_raises, marked, builds, builds_by, is_built_outcome}
-use Rattle.mw_isa.specs.Replay.{acted, raises, retires, same_suffix}
+use Rattle.mw_isa.specs.Replay.{acted, chooses, raises, retires, same_suffix}
 
 -- what an instruction carries that comes to an outcome
 abbrev pub known : Fetched → Insn → Outcome → State → UnderWay
@@ -173,6 +176,12 @@ unfolding acted
 acted-trapped cycle raised state b e =
     ap (λ (c : Bool). cond c (Some (step state).after) None) (both b (both (eq-eqb state.regs.cia state.regs.cia refl) (ap (λ (trap : Option Raised). raises trap raised.vector) e ∙ eq-eqb (address_of raised.vector) (address_of raised.vector) refl)))
 
+-- the interrupt that is chosen is taken, at the next instruction's address
+pub acted-interrupted : (cycle : ℕ) (vector : Vector) (state : State) → chosen state ≡ Some vector → acted (Irq cycle state.regs.cia vector) state ≡ Some (interrupted vector state)
+unfolding acted
+acted-interrupted cycle vector state e =
+    ap (λ (c : Bool). cond c (Some (interrupted vector state)) None) (both (eq-eqb state.regs.cia state.regs.cia refl) (ap (λ (choice : Option Vector). chooses choice vector) e ∙ eq-eqb (address_of vector) (address_of vector) refl))
+
 -- of two devices with one cycle either has it
 one-cycle : (b : Bool) (x y : DeviceData) (cycle : ℕ) → cycle_of x ≡ cycle → cycle_of y ≡ cycle → cycle_of (cond b x y) ≡ cycle
 one-cycle true x y cycle p q = p
@@ -260,3 +269,12 @@ after_of-cycle None it state = behind-cycle it.insn it.outcome it.placed it.cia 
 pub step-cycle : (state : State) → cycle_of (step state).after.devices ≡ cycle_of state.devices
 unfolding step
 step-cycle state = after_of-cycle (raises_of (under_way state) (get_slot state.regs) state.regs.msr) (under_way state) state
+
+-- a cycle leaves the devices at theirs, whatever is chosen
+passed_by-cycle : (choice : Option Vector) (state : State) → cycle_of (passed_by choice state).devices ≡ cycle_of state.devices
+passed_by-cycle None state = step-cycle state
+passed_by-cycle (Some vector) state = refl
+
+-- so it does
+pub passed-cycle : (state : State) → cycle_of (passed state).devices ≡ cycle_of state.devices
+passed-cycle state = passed_by-cycle (chosen state) state

@@ -1,5 +1,5 @@
 -- In reading order: the state and its start; one instruction, what it does by its row, what it reads, comes to and
--- writes; runs of events; their text and what it spells.
+-- writes; the interrupt in its place; runs of events; their text and what it spells.
 pub mod Vectors
 pub mod Msr
 pub mod State
@@ -27,9 +27,11 @@ pub mod Raises
 pub mod System
 pub mod Take
 pub mod Step
+pub mod Choose
 pub mod Replay
 pub mod Unbuilt
 pub mod Stops
+pub mod Prompt
 pub mod Lively
 pub mod Runs
 pub mod Text

@@ -89,6 +89,6 @@ msr_from source msr =
 abbrev pub msr_partly_from : ℕ → ℕ → ℕ
 msr_partly_from source msr = with_bit (has_bit source ee_place) ee_place (with_bit (has_bit source ri_place) ri_place msr)
 
--- external interrupts are taken, or instruction or data addresses translated
-abbrev pub is_open : ℕ → Bool
-is_open msr = has_bit msr ee_place || (has_bit msr ir_place || has_bit msr dr_place)
+-- instruction or data addresses are translated
+abbrev pub is_translating : ℕ → Bool
+is_translating msr = has_bit msr ir_place || has_bit msr dr_place

@@ -9,6 +9,7 @@ use Rattle.mw_isa.specs.Start.{Boot, start}
 use Rattle.mw_isa.specs.Fetch.{word_of, suffix_of}
 use Rattle.mw_isa.specs.declared.raised.Raised.{Raised}
 use Rattle.mw_isa.specs.Step.{step, builds}
+use Rattle.mw_isa.specs.Choose.{chosen, interrupted}
 
 -- the cycle of an event
 abbrev pub cycle_of_event : Event → ℕ
@@ -40,12 +41,20 @@ retires state cia word suffix = builds state && (not (is_some (step state).trap)
 abbrev pub traps : State → ℕ → Vector → Bool
 traps state cia vector = builds state && ((state.regs.cia == cia) && raises (step state).trap vector)
 
--- what an event makes of a state whose devices stand at its cycle, where it is defined; no interrupt between
--- two instructions is built yet
+-- an interrupt is chosen, and it is this one
+abbrev pub chooses : Option Vector → Vector → Bool
+chooses None vector = false
+chooses (Some other) vector = address_of other == address_of vector
+
+-- an interrupt to this vector is taken there, before the instruction of this address
+abbrev pub interrupts : State → ℕ → Vector → Bool
+interrupts state nia vector = (state.regs.cia == nia) && chooses (chosen state) vector
+
+-- what an event makes of a state whose devices stand at its cycle, where it is defined
 unfoldable pub acted : Event → State → Option State
 acted (Retire cycle cia word suffix) state = if retires state cia word suffix then Some (step state).after else None
 acted (Trap cycle cia vector) state = if traps state cia vector then Some (step state).after else None
-acted (Irq cycle nia vector) state = None
+acted (Irq cycle nia vector) state = if interrupts state nia vector then Some (interrupted vector state) else None
 
 -- what an event makes of a state, where it is defined
 abbrev pub applied : Event → State → Option State

@@ -6,18 +6,19 @@
 -- without an event; a run that breaks the update discipline stops at its first offending access, and all this holds
 -- until there.
 --
--- Below is what of it is built: image, script, number of cycles, events, registers, memory, UART bytes, and the 8,192
--- cycles. Waits, interrupts between instructions and the update discipline aren't built yet, and a run that reaches an
--- instruction that isn't built is refused.
+-- Below is what of it is built: image, script, number of cycles, events, registers, memory, UART bytes, interrupts, and
+-- the 8,192 cycles. Waits and the update discipline aren't built yet, and a run that reaches an instruction that isn't
+-- built, one that would turn translation on, is refused.
 use Rattle.std.specs.Prelude.{ℕ, ◌≡◌, ◌≤◌, ◌<◌, List, length, Some, All}
 use Rattle.std.specs.List.Sorted.{IsStrictlyIncreasing}
 use Rattle.mw_bus.specs.Memory.{ram_size}
 use Rattle.mw_isa.specs.declared.event.Event.{Event}
 use Rattle.mw_isa.specs.declared.event.End.{End}
 use Rattle.mw_isa.specs.State.{State}
-use Rattle.mw_isa.specs.Start.{Boot}
+use Rattle.mw_isa.specs.Start.{Boot, start}
 use Rattle.mw_isa.specs.Replay.{cycles_of, state_after}
 use Rattle.mw_isa.specs.Stops.{stop_of, StopsBy}
+use Rattle.mw_isa.specs.Prompt.{IsPrompt}
 use Rattle.mw_isa.specs.Lively.{IsLively}
 
 -- the events are a run of this boot for n cycles, with this end and last state
@@ -32,5 +33,7 @@ pub record Runs (boot : Boot) (n : ℕ) (events : List Event) (end : End) (last 
   pub below : All (λ cycle. cycle < stop_of end) (cycles_of events)
   -- the machine replays the events, and the last state is what they leave at the stop
   pub replayed : state_after boot events (stop_of end) ≡ Some last
+  -- nothing retires or traps while an enabled interrupt is pending
+  pub prompt : IsPrompt events (start boot)
   -- no 8,192 successive cycles up to the stop are without an event
   pub lively : IsLively events (stop_of end)

@@ -31,7 +31,7 @@ use Rattle.mw_isa.specs.Storage.{IsSized, OnMemory, IsPlaced, pages_of, accessed
 use Rattle.mw_isa.specs.Raises.{Placed, access_raises, earlier, fetch_raises, outcome_raises, words_raise}
 use Rattle.mw_isa.specs.Take.{taken}
 use Rattle.mw_isa.specs.Msr.{bit_at, prefixed_place}
-use Rattle.mw_isa.specs.System.{system_deed, system_done, system_next, system_opens, system_raises}
+use Rattle.mw_isa.specs.System.{system_deed, system_done, system_next, system_raises, system_translates}
 use Rattle.mw_isa.specs.Words.{insn_of}
 
 -- what an instruction carries while it is under way, each part where the one before it is there and raises nothing
@@ -110,13 +110,13 @@ first_raised it view msr =
 abbrev pub raises_of : UnderWay → (Slot → ℕ) → ℕ → Option Raised
 raises_of it view msr = option_map (marked it.words) (first_raised it view msr)
 
--- an outcome that is built: the pages of its access, if it has one, have no fault; the MSR that it leaves lets no external
--- interrupt be taken and no address be translated
+-- an outcome that is built: the pages of its access, if it has one, have no fault; the MSR that it leaves lets no address be
+-- translated
 abbrev pub is_built_outcome : Outcome → Option Placed → Regs → Bool
 is_built_outcome (Memory op) (Some (Ok at)) regs = true
 is_built_outcome (Memory op) (Some (Err fault)) regs = false
 is_built_outcome (Memory op) None regs = false
-is_built_outcome (System op) placed regs = not (system_opens op regs)
+is_built_outcome (System op) placed regs = not (system_translates op regs)
 is_built_outcome outcome placed regs = true
 
 -- an instruction that is built: all that isn't stands here, beside the chain

@@ -61,7 +61,7 @@ pub use msr::PRIVILEGED;
 pub use msr::RI;
 pub use msr::TRAP;
 pub use msr::bit_at;
-pub use msr::is_open;
+pub use msr::is_translating;
 pub use msr::msr_from;
 pub use msr::msr_partly_from;
 pub use msr::without_bit;

@@ -1,5 +1,5 @@
 ghost use Rattle.std.specs.Prelude.{◌≡◌, ◌≤◌, ◌<◌, ◌^◌};
-ghost use Rattle.mw_isa.specs.Msr.{bit_at, is_open, msr_from, msr_partly_from, with_bit, without_bit};
+ghost use Rattle.mw_isa.specs.Msr.{bit_at, is_translating, msr_from, msr_partly_from, with_bit, without_bit};
 
 use crate::xer::has_bit;
 
@@ -81,10 +81,9 @@ pub fn msr_partly_from(source: u64, msr: u64) -> u64
     with_bit(has_bit(source, EE), EE, msr)
 }
 
-/// Whether MSR lets external interrupts be taken, or addresses of instructions or data be translated. It
-/// can't fail.
-pub fn is_open(msr: u64) -> bool
-    ensures { result ≡ is_open msr }
+/// Whether MSR lets addresses of instructions or data be translated. It can't fail.
+pub fn is_translating(msr: u64) -> bool
+    ensures { result ≡ is_translating msr }
 {
-    has_bit(msr, EE) || (has_bit(msr, IR) || has_bit(msr, DR))
+    has_bit(msr, IR) || has_bit(msr, DR)
 }

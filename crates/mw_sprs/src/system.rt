@@ -2,14 +2,14 @@ ghost use Rattle.std.specs.Prelude.{◌≡◌, IfSome, option_map};
 ghost use Rattle.mw_isa.specs.Msr.{pr_place};
 ghost use Rattle.mw_isa.specs.Sprs.{held, read_of, refusal_of, write_of};
 ghost use Rattle.mw_isa.specs.Xer.{has_bit};
-ghost use Rattle.mw_isa.specs.System.{held_or, msr_behind, refused_by, regs_reading, system_held, system_opens, system_raises};
+ghost use Rattle.mw_isa.specs.System.{held_or, msr_behind, refused_by, regs_reading, system_held, system_raises, system_translates};
 ghost use Rattle.mw_isa.specs.Take.{IsUnmarked};
 
 use crate::moving::{read, write};
 use crate::numbers::refusal_of;
 use mw_isa::{
     ILLEGAL, PR, PRIVILEGED, Raised, Regs, Slot, SprRefusal, SysOp, Use, Vector, bit_at, has_bit,
-    is_open, msr_from, msr_partly_from, raising, set_slot,
+    is_translating, msr_from, msr_partly_from, raising, set_slot,
 };
 use mw_soc::Devices;
 
@@ -75,14 +75,13 @@ fn msr_behind(op: &SysOp, regs: &Regs) -> u64
     }
 }
 
-/// Whether an instruction of the system writes MSR so that external interrupts are taken or addresses
-/// translated. It can't fail.
-pub fn system_opens(op: &SysOp, regs: &Regs) -> bool
-    ensures { result ≡ system_opens op.now regs.now }
+/// Whether an instruction of the system writes MSR so that addresses are translated. It can't fail.
+pub fn system_translates(op: &SysOp, regs: &Regs) -> bool
+    ensures { result ≡ system_translates op.now regs.now }
 {
     match op {
-        SysOp::WriteMsr { .. } => is_open(msr_behind(op, regs)),
-        SysOp::Return { .. } => is_open(msr_behind(op, regs)),
+        SysOp::WriteMsr { .. } => is_translating(msr_behind(op, regs)),
+        SysOp::Return { .. } => is_translating(msr_behind(op, regs)),
         SysOp::ReadSpr { .. } => false,
         SysOp::WriteSpr { .. } => false,
         SysOp::Tlbie { .. } => false,

@@ -5,7 +5,7 @@ ghost use Rattle.mw_isa.specs.Take.{IsUnmarked};
 
 use mw_isa::{Outcome, PageFault, Raised, Regs, Stretches, raising};
 use mw_loadstore::access_raises;
-use mw_sprs::{system_opens, system_raises};
+use mw_sprs::{system_raises, system_translates};
 
 /// The interrupt that an outcome raises under MSR, if it does: by itself, by the number of a register, or by
 /// its access where it stands.
@@ -32,7 +32,7 @@ pub fn end_raises(
 }
 
 /// Whether an outcome is built: its access, if it has one, stands somewhere, and the MSR that it writes lets no
-/// external interrupt be taken and no address be translated.
+/// address be translated.
 pub fn is_built_outcome(
     outcome: &Outcome,
     placed: &Option<Result<Stretches, PageFault>>,
@@ -44,7 +44,7 @@ pub fn is_built_outcome(
         Outcome::Done { .. } => true,
         Outcome::Long(_) => true,
         Outcome::Trap { .. } => true,
-        Outcome::System(op) => !system_opens(op, regs),
+        Outcome::System(op) => !system_translates(op, regs),
         Outcome::Memory(_) => match placed {
             None => false,
             Some(Err(_)) => false,

@@ -1,9 +1,10 @@
 //! The executable step of the sequential machine: what the next instruction is and comes to, told before anything
-//! changes, and the same carried out.
+//! changes, and the same carried out; and the interrupt that is taken in its place.
 #![tactic(auto)]
 
 mod carry;
 mod fetch;
+mod interrupt;
 mod judge;
 mod long;
 mod look;
@@ -12,6 +13,7 @@ mod prepared;
 mod storage;
 
 pub use carry::carry_out;
+pub use interrupt::{chosen, interrupt};
 pub use look::prepare;
 pub use prepared::Prepared;
 pub use storage::{read, write};

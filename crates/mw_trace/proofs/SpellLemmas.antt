@@ -18,6 +18,7 @@ use Rattle.mw_isa.specs.Vectors.{address_of}
 use Rattle.mw_isa.specs.Replay.{cycle_of_event}
 use Rattle.mw_isa.specs.State.{State}
 use Rattle.mw_isa.specs.Text.{line, event_words, end_words, state_words, asked_words, text_of}
+use Rattle.mw_isa.proofs.PromptLaws.{vector_at-address_of}
 use Rattle.mw_isa.specs.Reading.{same_words, vector_at, guess_event, event_of, words_of, end_by, events_in, end_in, more_events, lines_from, lines_of, events_of, end_of, FitsEvent, FitsEnd, Spells}
 use Rattle.mw_trace.specs.Determined.{TextsSpell, TextsDetermine}
 use Rattle.mw_trace.proofs.PieceLemmas.{AreWords, words_of-join, lines_from-line}
@@ -27,21 +28,6 @@ use Rattle.mw_trace.proofs.NumeralLemmas.{above-hex, above-decimal}
 same_words-refl : (words : List (List ℕ)) → same_words words words ≡ true
 same_words-refl [] = refl
 same_words-refl (word ∷ words) = ap (λ b. b && same_words words words) ((bytes_eq-Decides word word).1 refl) ∙ same_words-refl words
-
--- the vector at a vector's address
-vector_at-address_of : (vector : Vector) → vector_at (address_of vector) ≡ Some vector
-vector_at-address_of DataStorage = refl
-vector_at-address_of DataSegment = refl
-vector_at-address_of InstStorage = refl
-vector_at-address_of InstSegment = refl
-vector_at-address_of External = refl
-vector_at-address_of Alignment = refl
-vector_at-address_of Program = refl
-vector_at-address_of FpUnavailable = refl
-vector_at-address_of Decrementer = refl
-vector_at-address_of SystemCall = refl
-vector_at-address_of VectorUnavailable = refl
-vector_at-address_of VsxUnavailable = refl
 
 -- a vector's address has four digits
 address_of-lt : (vector : Vector) → address_of vector < 16 ^ 4
