@@ -131,12 +131,13 @@ made-next boot n events more cycle event state after devices below m d t e =
 pub made-unbuilt : (boot : Boot) (n : ℕ) (events : List Event) (cycle : ℕ) (state after : State) (devices : DeviceData) → cycle < n → length boot.image ≤ 16777216 → IsMade boot n events cycle state → devices ≡ devices_at state.devices cycle → Turns None (state_of state.regs state.ram devices) after → HasCause boot n (Unbuilt cycle after.regs.cia)
 made-unbuilt boot n events cycle state after devices below fits m d t =
     let stays : (passes (brought cycle state) ≡ false) × (after ≡ brought cycle state) = subst (λ (v : DeviceData). Turns None (state_of state.regs state.ram v) after) d t in
-    let left : n - cycle ≡ suc (n - (cycle + 1)) = omega arith in
-    (fits,
-    sym m.ahead
-    ∙ ap (λ (l : ℕ). unbuilt_from l cycle state) left
-    ∙ ap (λ (b : Bool). cond b (unbuilt_from (n - (cycle + 1)) (cycle + 1) (passed (brought cycle state))) (Some (cycle, state.regs.cia))) stays.0
-    ∙ ap (λ (s : State). Some (cycle, s.regs.cia)) (sym stays.1))
+    let left : n - cycle ≡ suc (n - (cycle + 1)) = omega arith in (
+      fits,
+      sym m.ahead
+          ∙ ap (λ (l : ℕ). unbuilt_from l cycle state) left
+          ∙ ap (λ (b : Bool). cond b (unbuilt_from (n - (cycle + 1)) (cycle + 1) (passed (brought cycle state))) (Some (cycle, state.regs.cia))) stays.0
+          ∙ ap (λ (s : State). Some (cycle, s.regs.cia)) (sym stays.1),
+    )
 
 -- the end, from its parts
 pub made-end : (boot : Boot) (n : ℕ) (events all : List Event) (cycle : ℕ) (end : End) (state last : State) → IsMade boot n events cycle state → cycle ≡ n → length boot.image ≤ 16777216 → all ≡ events → end ≡ Ran n → last ≡ brought n state → Runs boot n all end last
