@@ -1,4 +1,4 @@
-//! The tests of the machine, from one instruction to a run and its text, over their public calls.
+//! The tests of the machine, from one instruction to a run, over its crates' public calls.
 #![tactic(auto)]
 
 #[cfg(test)]
@@ -17,5 +17,3 @@ mod sprs;
 mod storage;
 #[cfg(test)]
 mod stretches;
-#[cfg(test)]
-mod trace;

@@ -14,6 +14,8 @@ mod interrupts;
 #[cfg(test)]
 mod logic;
 #[cfg(test)]
+mod pending;
+#[cfg(test)]
 mod programs;
 #[cfg(test)]
 mod results;

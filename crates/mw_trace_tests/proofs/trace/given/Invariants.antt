@@ -1,5 +1,5 @@
 use Rattle.std.proofs.Common.{◌≡◌}
-use Rattle.mw_board_tests.proofs.trace.given.Given as goal
+use Rattle.mw_trace_tests.proofs.trace.given.Given as goal
 
 -- the room stays
 abbrev pub invariant-loop-byte : goal.invariant-loop-byte
