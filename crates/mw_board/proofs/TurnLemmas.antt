@@ -1,5 +1,5 @@
 -- One cycle of the plain board, from what mw_step carried out.
-use Rattle.std.proofs.Common.{◌≡◌, tt, Bool, true, false, not, ◌||◌, Option, Some, None, IsTrue, is_some, refl, sym, ap, ◌∙◌, subst}
+use Rattle.std.proofs.Common.{◌≡◌, Bool, true, false, not, ◌||◌, Option, Some, None, IsTrue, is_some, refl, sym, ap, ◌∙◌, subst}
 use Rattle.mw_isa.specs.declared.event.Event.{Event}
 use Rattle.mw_isa.specs.declared.event.Event.TheVariants.{Irq}
 use Rattle.mw_isa.specs.declared.raised.Raised.{Raised}
@@ -27,8 +27,8 @@ acted-at (Some raised) state built is = acted-trapped (cycle_of state.devices) r
 
 -- where no interrupt is chosen, whatever happens is prompt
 prompt-calm : (takes : Bool) (choice : Option Vector) → choice ≡ None → IsTrue (takes || not (is_some choice))
-prompt-calm true choice calm = tt
-prompt-calm false None calm = tt
+prompt-calm true choice calm = refl
+prompt-calm false None calm = refl
 prompt-calm false (Some vector) calm = cc
 
 -- an instruction that is built, carried out where no interrupt is chosen, is the machine's
@@ -47,7 +47,7 @@ turns-interrupted state after event vector chooses e a = record {
   can = ap (λ (choice : Option Vector). is_some choice || builds state) chooses;
   cycle = ap cycle_of_event e;
   acts = ap (λ (x : Event). acted x state) e ∙ acted-interrupted (cycle_of state.devices) vector state chooses ∙ ap Some (sym a);
-  prompt = subst (λ (x : Event). IsTrue (is_prompt x state)) (sym e) tt;
+  prompt = subst (λ (x : Event). IsTrue (is_prompt x state)) (sym e) refl;
   leaves = ap (λ (choice : Option Vector). passed_by choice state) chooses ∙ sym a;
 }
 

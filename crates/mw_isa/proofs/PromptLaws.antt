@@ -1,5 +1,6 @@
 -- An interrupt that stands and is enabled is taken at once, and is the one that is chosen.
-use Rattle.std.proofs.Common.{◌≡◌, ⊤, tt, Bool, true, false, not, ◌||◌, cond, List, [], ◌∷◌, ◌++◌, Option, Some, None, IsTrue, IfSome, is_some, option_map, option_and_then, unwrap_or, refl, sym, ap, ◌∙◌, subst}
+use Rattle.std.proofs.Common.{◌≡◌, ℕ, Bool, true, false, not, ◌||◌, cond, List, [], ◌∷◌, ◌++◌, Option, Some, None, IsTrue, IfSome, is_some, option_map, option_and_then, unwrap_or, refl, sym, ap, ◌∙◌, subst}
+use Rattle.std.specs.Prelude.{⊤}
 use Rattle.std.proofs.lemmas.Bool.{and_parts, eqb-true}
 use Rattle.mw_isa.specs.declared.event.Event.{Event}
 use Rattle.mw_isa.specs.declared.event.Event.TheVariants.{Retire, Trap, Irq}
@@ -49,7 +50,7 @@ held-by false state after e = cc
 -- where none is chosen
 none-chosen : (choice : Option Vector) → IsTrue (not (is_some choice)) → None ≡ choice
 none-chosen None calm = refl
-none-chosen (Some vector) calm = absurd calm
+none-chosen (Some vector) calm = cc
 
 -- an event that is prompt and accepted takes the interrupt that is chosen, and none where none is
 pub irq-chosen : (event : Event) (state after : State) → IsTrue (is_prompt event state) → acted event state ≡ Some after → irq_of event ≡ chosen state
