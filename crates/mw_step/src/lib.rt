@@ -2,9 +2,9 @@
 //! changes, and the same carried out; and the interrupt that is taken in its place.
 #![tactic(auto)]
 
+mod between;
 mod carry;
 mod fetch;
-mod interrupt;
 mod judge;
 mod long;
 mod look;
@@ -12,8 +12,8 @@ mod place;
 mod prepared;
 mod storage;
 
+pub use between::{chosen, interrupt};
 pub use carry::carry_out;
-pub use interrupt::{chosen, interrupt};
 pub use look::prepare;
 pub use prepared::Prepared;
 pub use storage::{read, write};
