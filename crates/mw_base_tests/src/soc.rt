@@ -36,7 +36,7 @@ fn decrementer_counts_down(rt: HostRuntime) -> Result<(), Fail> {
 struct Load(u64, u8, [u8; 8]);
 
 #[rattlefmt::skip]
-static LOADS: [Load; 18] = [
+static LOADS: [Load; 29] = [
     Load(0xC000_0000, 8, [1, 0, 1, 0, 0x55, 0xAA, 0x0D, 0xF0]),
     Load(0xC000_0008, 8, [5, 0, 0, 0, 0, 0, 0, 0]),
     Load(0xC000_0010, 8, [0, 0, 0, 1, 0, 0, 0, 0]),
@@ -49,6 +49,17 @@ static LOADS: [Load; 18] = [
     Load(0xC000_0008, 1, [0; 8]),
     Load(0xC000_2010, 1, [3, 0, 0, 0, 0, 0, 0, 0]), // the UART's STATUS: both queues are empty
     Load(0xC000_2028, 8, [0; 8]),
+    Load(0xC000_4000, 4, [0; 8]), // XIRR: CPPR is 0, and nothing is pending
+    Load(0xC000_4000, 1, [0; 8]),
+    Load(0xC000_4004, 4, [0; 8]),
+    Load(0xC000_400C, 1, [255, 0, 0, 0, 0, 0, 0, 0]), // MFRR
+    Load(0xC000_400C, 4, [255, 0, 0, 0, 0, 0, 0, 0]),
+    Load(0xC000_4008, 8, [0; 8]), // a width that isn't listed
+    Load(0xC000_4FF8, 8, [0; 8]),
+    Load(0xC000_5800, 4, [0, 0, 0, 255, 0, 0, 0, 0]), // the priority of line 0
+    Load(0xC000_5FFF, 1, [0; 8]),
+    Load(0xC000_3FFF, 1, [255, 0, 0, 0, 0, 0, 0, 0]), // around the interrupt controller
+    Load(0xC000_6000, 4, [255, 255, 255, 255, 0, 0, 0, 0]),
     Load(0xC000_1000, 8, [255; 8]), // between the devices, and around them
     Load(0xC000_3000, 4, [255, 255, 255, 255, 0, 0, 0, 0]),
     Load(0xBFFF_FFFE, 2, [255, 255, 0, 0, 0, 0, 0, 0]),
@@ -64,6 +75,53 @@ fn loads_go_by_the_map(rt: HostRuntime) -> Result<(), Fail> {
         assert!(rt; 1 <= *width && *at % 8 + u64::from(*width) <= 8);
         assert_eq!(rt; devices.load(*at, *width), *want, "{width} at {at:x}");
     }
+    Ok(())
+}
+
+/// Brings devices to a cycle and looks there whether the external exception stands.
+fn ask(rt: &impl Abort, devices: &mut Devices, cycle: u64, want: bool)
+    requires { devices.old.room ≡ 26843546 }
+    ensures { devices.new.room ≡ 26843546 }
+{
+    assert!(rt; devices.cycle() <= cycle && cycle / 160 <= ROOM);
+    devices.advance(cycle);
+    assert_eq!(rt; devices.external(), want, "at {cycle}");
+}
+
+/// An empty send queue keeps the UART's line on, which has priority 5.
+#[test]
+fn external_follows_the_uarts_line(rt: HostRuntime) -> Result<(), Fail> {
+    let mut devices = Devices::new(rt.alloc(), Script::new(rt.alloc()), ROOM)?;
+    ask(&rt, &mut devices, 0, false);
+    devices.store(0xC000_5800, &[0, 0, 0, 5]);
+    ask(&rt, &mut devices, 0, false);
+    devices.store(0xC000_4004, &[255]);
+    ask(&rt, &mut devices, 0, false);
+    devices.store(0xC000_2020, &[2]);
+    ask(&rt, &mut devices, 0, true);
+    ask(&rt, &mut devices, 13, true);
+    devices.store(0xC000_2000, &[0x41]);
+    ask(&rt, &mut devices, 13, false);
+    ask(&rt, &mut devices, 14, false);
+    ask(&rt, &mut devices, 172, false);
+    ask(&rt, &mut devices, 173, true);
+    assert_eq!(rt; devices.output(), [0x41].as_slice());
+    // it is looked at, accepted and ended
+    assert_eq!(rt; devices.load(0xC000_4000, 4), [255, 0, 0, 16, 0, 0, 0, 0]);
+    ask(&rt, &mut devices, 173, true);
+    assert_eq!(rt; devices.load(0xC000_4004, 4), [255, 0, 0, 16, 0, 0, 0, 0]);
+    ask(&rt, &mut devices, 173, false);
+    ask(&rt, &mut devices, 4_000_000, false);
+    devices.store(0xC000_4004, &[255, 0, 0, 16]);
+    ask(&rt, &mut devices, 4_000_000, true);
+    // the line goes off
+    devices.store(0xC000_2020, &[0]);
+    ask(&rt, &mut devices, 4_000_000, false);
+    // the interprocessor interrupt needs no line
+    devices.store(0xC000_400C, &[254]);
+    ask(&rt, &mut devices, 4_000_000, true);
+    devices.store(0xC000_4004, &[254]);
+    ask(&rt, &mut devices, 4_000_000, false);
     Ok(())
 }
 

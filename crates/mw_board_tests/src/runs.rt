@@ -58,8 +58,8 @@ struct Refused(&'static [u32], u64, RunFault);
 static REFUSED: [Refused; 4] = [
     Refused(&[0x3880_0020, 0x7c80_0164], 2, RunFault::Unbuilt { cycle: 1, cia: 4 }), // li r4,0x20; mtmsrd r4,0
     Refused(&[0x3880_0010, 0x4800_0008, 0, 0x7c80_0124], 9, RunFault::Unbuilt { cycle: 2, cia: 12 }), // li r4,0x10; b 12; mtmsr r4,0
-    Refused(&[0x0600_0000, 0x3880_8000, 0x7c81_0164], 3, RunFault::Unbuilt { cycle: 1, cia: 8 }), // paddi r4,0,0x8000; mtmsrd r4,1
-    Refused(&[0x3c60_c000, 0x5463_003e, 0x6063_4000, 0x8883_0000], 9, RunFault::Unbuilt { cycle: 3, cia: 12 }), // lis r3,-0x4000; rlwinm r3,r3,0,0,31; ori r3,r3,0x4000; lbz r4,0(r3)
+    Refused(&[0x0600_0000, 0x3880_0010, 0x7c80_0164], 3, RunFault::Unbuilt { cycle: 1, cia: 8 }), // paddi r4,0,0x10; mtmsrd r4,0
+    Refused(&[0x3880_0020, 0x7c9b_03a6, 0x4c00_0024], 9, RunFault::Unbuilt { cycle: 2, cia: 8 }), // li r4,0x20; mtspr 27,r4; rfid
 ];
 
 #[test]

@@ -18,7 +18,7 @@ const HANDLERS: [usize; 6] = [0x600, 0x700, 0x800, 0xc00, 0xf20, 0xf40];
 
 /// Each vector and cause that comes without translation, beside what doesn't trap.
 #[rattlefmt::skip]
-static ROWS: [Row; 50] = [
+static ROWS: [Row; 53] = [
     Row(&[0x0000_0000], Some((0, 0, Vector::Program)), [0, 0x9000_0000_0008_1001, 0], &[]), // .long 0
     Row(&[0x3860_0005, 0x0000_0000], Some((1, 4, Vector::Program)), [4, 0x9000_0000_0008_1001, 0], &[(3, 5)]), // li r3,5; .long 0
     Row(&[0x3860_0005, 0x4800_0000], None, [0, 0, 0], &[(3, 5)]), // li r3,5; b .
@@ -69,6 +69,9 @@ static ROWS: [Row; 50] = [
     Row(&[0x3860_0000, 0x6463_c000, 0x6063_2001, 0xb063_0000], Some((3, 0xc, Vector::Alignment)), [0xc, 0x9000_0000_0000_1001, 0xc000_2001], &[]), // li r3,0; oris r3,r3,0xc000; ori r3,r3,0x2001; sth r3,0(r3)
     Row(&[0x3860_0000, 0x6463_c000, 0x6063_2002, 0xb063_0000, 0x4800_0000], None, [0, 0, 0], &[]), // li r3,0; oris r3,r3,0xc000; ori r3,r3,0x2002; sth r3,0(r3); b .
     Row(&[0x3860_0000, 0x6463_c000, 0x6063_4000, 0xba83_0000], Some((3, 0xc, Vector::Alignment)), [0xc, 0x9000_0000_0000_1001, 0xc000_4000], &[]), // li r3,0; oris r3,r3,0xc000; ori r3,r3,0x4000; lmw r20,0(r3)
+    Row(&[0x3860_0000, 0x6463_c000, 0x6063_4002, 0x8083_0000], Some((3, 0xc, Vector::Alignment)), [0xc, 0x9000_0000_0000_1001, 0xc000_4002], &[(4, 0)]), // li r3,0; oris r3,r3,0xc000; ori r3,r3,0x4002; lwz r4,0(r3)
+    Row(&[0x3860_0000, 0x6463_c000, 0x6063_4001, 0x7c80_1828], Some((3, 0xc, Vector::Alignment)), [0xc, 0x9000_0000_0000_1001, 0xc000_4001], &[(4, 0)]), // li r3,0; oris r3,r3,0xc000; ori r3,r3,0x4001; lwarx r4,r0,r3
+    Row(&[0x3860_0000, 0x6463_c000, 0x6063_4004, 0x7c00_1fac, 0x4800_0000], None, [0, 0, 0], &[]), // li r3,0; oris r3,r3,0xc000; ori r3,r3,0x4004; icbi r0,r3; b .
 ];
 
 /// The bytes of words from address 0 on, zeros behind them, and `b .` at each handler's address.

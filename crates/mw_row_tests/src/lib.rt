@@ -10,9 +10,13 @@ mod compares;
 #[cfg(test)]
 mod conditions;
 #[cfg(test)]
+mod controller;
+#[cfg(test)]
 mod interrupts;
 #[cfg(test)]
 mod logic;
+#[cfg(test)]
+mod numbers;
 #[cfg(test)]
 mod pending;
 #[cfg(test)]

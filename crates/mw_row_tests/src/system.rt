@@ -75,7 +75,7 @@ pub fn image_of(alloc: Global, parts: &[(usize, &[u32])]) -> Result<Vec<u8>, NoM
 }
 
 /// How many events are traps.
-fn traps_in(events: &[Event]) -> u64 {
+pub fn traps_in(events: &[Event]) -> u64 {
     let mut count = 0u64;
     for event in events {
         if let Event::Trap { .. } = event {

@@ -151,3 +151,46 @@ fn a_console_greets_and_sends_back(rt: HostRuntime) -> Result<(), Fail> {
     assert!(rt; err.as_slice().is_empty());
     Ok(())
 }
+
+/// li r3,0; oris r3,r3,0xc000; ori r3,r3,0x2000; ld r4,16(r3); li r5,16; mtspr 9,r5; li r6,0; loop: lbz r7,8(r3); add
+/// r6,r6,r7; bc 16,0,loop; ld r9,16(r3); lbz r10,8(r3); b .
+#[rattlefmt::skip]
+const SUMMING: [u32; 13] = [
+    0x3860_0000, 0x6463_c000, 0x6063_2000, 0xe883_0010, 0x38a0_0010, 0x7ca9_03a6, 0x38c0_0000, 0x88e3_0008,
+    0x7cc6_3a14, 0x4200_fff8, 0xe923_0010, 0x8943_0008, 0x4800_0000,
+];
+
+/// The registers behind it that aren't 0: the queue is full of 16 bytes, whose sum is 0x78, and then it is empty.
+#[rattlefmt::skip]
+const SUMMED: [(usize, &str); 6] = [
+    (3, "00000000c0002000"), (4, "0000000000000006"), (5, "0000000000000010"), (6, "0000000000000078"),
+    (7, "000000000000000f"), (9, "0000000000000003"),
+];
+
+/// Seventeen bytes arrive in one cycle, and the last of them is lost.
+#[test]
+fn what_arrives_at_once_is_summed_up(rt: HostRuntime) -> Result<(), Fail> {
+    let alloc = rt.alloc();
+    let mut image = Vec::new(alloc);
+    push_words(&mut image, &SUMMING)?;
+    let mut host = SureHost::new(alloc);
+    host.put("img", image.as_slice())?;
+    host.put("s", b"0 000102030405060708090a0b0c0d0e0f10")?;
+    let mut out = SureSink::new(alloc);
+    let mut err = SureSink::new(alloc);
+    let words = words_of(alloc, "run img --cycles 600000 --script s")?;
+    let status = mw_main(alloc, words.as_slice(), &mut host, &mut out, &mut err);
+    assert_eq!(rt; status, Status::Done);
+    let mut text = String::new(alloc);
+    push_state(
+        &mut text,
+        600000,
+        &SUMMED,
+        "0000000000000030",
+        "7ff6d83f",
+        "-",
+    )?;
+    assert!(rt; out.as_slice().ends_with(text.as_bytes()));
+    assert!(rt; err.as_slice().is_empty());
+    Ok(())
+}
