@@ -1,5 +1,6 @@
 -- What holds of each row of the table, of registers by name, of what raises an interrupt, of products, of a step, of a
--- replay, of interrupts between instructions, of a run's text and of an access.
+-- replay, of interrupts between instructions, of a run's text and of an access and
+-- of a walk.
 pub mod SlotLaws
 pub mod RowLaws
 pub mod ReadLaws
@@ -11,6 +12,9 @@ pub mod StepLaws
 pub mod ReplayLaws
 pub mod PromptLaws
 pub mod RunLaws
+pub mod WalkReadLaws
+pub mod WalkSameLaws
+pub mod WalkPageLaws
 pub mod StorageLaws
 pub mod PageLaws
 pub mod StorageCases

@@ -24,6 +24,10 @@ pub mod Finish
 pub mod Targets
 pub mod Storage
 pub mod Raises
+pub mod Tables
+pub mod Walk
+pub mod Translate
+pub mod Faults
 pub mod System
 pub mod Take
 pub mod Step

@@ -1,5 +1,5 @@
--- The bits of the machine state register, and the causes of an interrupt that SRR1 tells, each by its place, counted from the
--- left of 64 (Book III, machine state register, interrupt definitions). The bits of facilities that the machine doesn't
+-- The bits of the machine state register, and the causes of an interrupt that SRR1 or DSISR tells, each by its place,
+-- counted from the left of 64 (Book III, machine state register, interrupt definitions). The bits of facilities that the machine doesn't
 -- have read 0.
 use Rattle.std.specs.Prelude.{ℕ, ◌+◌, ◌-◌, ◌^◌, Bool, ◌||◌, if◌then◌else◌, bit_or}
 use Rattle.mw_isa.specs.Xer.{has_bit}
@@ -71,6 +71,30 @@ privileged_place = 45
 -- that its trap condition holds
 abbrev pub trap_place : ℕ
 trap_place = 46
+
+-- the cause, in SRR1 for a fetch and in DSISR for data, that there is no translation
+abbrev pub no_translation_place : ℕ
+no_translation_place = 33
+
+-- the cause in SRR1 that a translation doesn't permit the fetch
+abbrev pub fetch_refused_place : ℕ
+fetch_refused_place = 35
+
+-- the cause in DSISR that a translation doesn't permit the access
+abbrev pub data_refused_place : ℕ
+data_refused_place = 36
+
+-- the cause in DSISR that the access is a store
+abbrev pub store_place : ℕ
+store_place = 38
+
+-- the cause in either that the tree isn't formed as it has to be
+abbrev pub bad_tree_place : ℕ
+bad_tree_place = 44
+
+-- the cause in either that the translation isn't marked as referenced, or for a store as changed
+abbrev pub unmarked_place : ℕ
+unmarked_place = 45
 
 -- the bits of MSR that are 1 whatever happens
 abbrev pub fixed_msr : ℕ

@@ -30,6 +30,7 @@ mod special;
 mod state;
 mod system;
 mod vector;
+mod walk;
 mod writing;
 mod xer;
 
@@ -127,6 +128,10 @@ pub use special::bo_of;
 pub use state::State;
 pub use system::SysOp;
 pub use vector::Vector;
+pub use walk::KeptEntry;
+pub use walk::Leaf;
+pub use walk::Translated;
+pub use walk::WalkFault;
 pub use writing::field_written;
 pub use writing::targets;
 pub use writing::updated_of;
