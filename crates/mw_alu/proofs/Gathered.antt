@@ -45,12 +45,12 @@ pub record Gathered (s mask place taken out : ℕ) : Type 0 where
   pub counted : taken ≡ ones_below place mask
   pub within : taken ≤ place
 
--- none is yet
+-- no bit is gathered before the first place
 pub gathered_none : (s mask : ℕ) → Gathered s mask 0 0 0
 unfolding sum_below
 gathered_none s mask = record { is_sum = refl; counted = sym (ones_below-zero mask); within = omega arith }
 
--- the next one is, where the mask has a one
+-- the bit of the next place is gathered, where the mask has a one
 pub gathered_or : (s mask place taken out b d : ℕ) → place < 64 → b ≡ bit_at mask place → d ≡ bit_at s place → Gathered s mask place taken out → Gathered s mask (place + 1) (taken + b) (bit_or out (b * d * 2 ^ taken % 2 ^ 64))
 gathered_or s mask place taken out b d inside first second before =
     let few : b < 2 = subst (λ (i : ℕ). i < 2) (sym first) (bit_at-lt mask place) in
@@ -66,7 +66,7 @@ gathered_or s mask place taken out b d inside first second before =
       within = omega (arith, before.within);
     }
 
--- the others go to the left of them
+-- bits where the mask has zeros, gathered to the left of those where it has ones
 pub fused : (s mask : ℕ) → mask < 2 ^ 64 → bit_or (pextd_of s (bit_not w64 mask) * 2 ^ ones_below 64 mask % 2 ^ 64) (pextd_of s mask) ≡ cfuged_of s mask
 fused s mask fits =
     let both : ones_below 64 (bit_not w64 mask) + ones_below 64 mask ≡ 64 = ones_below-not 64 mask (omega arith) fits in
@@ -79,12 +79,12 @@ pub record Spread (s mask place taken out : ℕ) : Type 0 where
   pub counted : taken ≡ ones_below place mask
   pub within : taken ≤ place
 
--- none is yet
+-- no bit is spread before the first place
 pub spread_none : (s mask : ℕ) → Spread s mask 0 0 0
 spread_none s mask =
     record { parts = parts_none (pdepd_part s mask) 1; counted = sym (ones_below-zero mask); within = omega arith }
 
--- the next one is, where the mask has a one
+-- the bit of the next place is spread, where the mask has a one
 pub spread_or : (s mask place taken out b d : ℕ) → place < 64 → b ≡ bit_at mask place → d ≡ bit_at s taken → Spread s mask place taken out → Spread s mask (place + 1) (taken + b) (bit_or out (b * d * 2 ^ place % 2 ^ 64))
 spread_or s mask place taken out b d inside first second before =
     let few : b < 2 = subst (λ (i : ℕ). i < 2) (sym first) (bit_at-lt mask place) in

@@ -6,20 +6,20 @@ use Rattle.std.proofs.lemmas.Nat.{mod-pow-add, ones_cat, ones-le}
 use Rattle.std.proofs.lemmas.Nat.Bits.{bit_at_not, bit_at-lt}
 use Rattle.mw_alu.specs.Places.{ones_below}
 
--- a bit counts itself
+-- a single bit has as many ones as its value
 ones_of_bit : (b : ℕ) → b < 2 → count_ones b ≡ b
 unfolding count_ones
 ones_of_bit zero small = refl
 ones_of_bit (suc zero) small = refl
 ones_of_bit (suc (suc b)) small = absurd (omega arith)
 
--- there is none below the last place
+-- a number has no ones below place 0
 pub ones_below-zero : (x : ℕ) → ones_below 0 x ≡ 0
 ones_below-zero x =
     let none : x % 2 ^ 0 ≡ 0 = omega arith in
     ap count_ones none ∙ ones_of_bit 0 (omega arith)
 
--- one place more has its bit more
+-- one place more counts the bit at that place too
 pub ones_below-more : (n x : ℕ) → ones_below (n + 1) x ≡ ones_below n x + bit_at x n
 ones_below-more n x =
     let turned : n + 1 ≡ 1 + n = omega arith in
@@ -30,11 +30,11 @@ ones_below-more n x =
     ∙ ap (λ i. i + ones_below n x) (ones_of_bit (bit_at x n) (bit_at-lt x n))
     ∙ omega arith
 
--- all of them are below the 64th place
+-- all ones of a number of 64 bits are below the 64th place
 pub ones_below-all : (x : ℕ) → x < 2 ^ 64 → count_ones x ≡ ones_below 64 x
 ones_below-all x fits = ap count_ones (sym (mod-eq_of_lt fits))
 
--- a byte has at most eight
+-- a byte has at most eight ones
 pub ones-byte : (x : ℕ) → x < 256 → count_ones x < 256
 ones-byte x small = let few : count_ones x ≤ 8 = ones-le 8 x small in omega arith
 

@@ -4,7 +4,7 @@ use Rattle.std.proofs.lemmas.Nat.{pow-add, shl_whole, mul-add-lt}
 use Rattle.std.specs.Int.Bits.{or_shifted_r}
 use Rattle.mw_alu.specs.Places.{sum_below}
 
--- one place more
+-- the sum below one place more has that place's part more
 pub sum_below-more : (n : ℕ) (f : ℕ → ℕ) → sum_below (n + 1) f ≡ sum_below n f + f n
 unfolding sum_below
 sum_below-more n f = ap (λ i. sum_below i f) (add-one n)
@@ -14,12 +14,12 @@ pub record Parts (f : ℕ → ℕ) (k n out : ℕ) : Type 0 where
   pub is_sum : out ≡ sum_below n f
   pub fits : out < 2 ^ (k * n)
 
--- no part yet
+-- the sum of no part is 0
 pub parts_none : (f : ℕ → ℕ) (k : ℕ) → Parts f k 0 0
 unfolding sum_below
 parts_none f k = record { is_sum = refl; fits = pow_pos (k * 0) }
 
--- one part more, in its place
+-- one part more is put into its place
 pub parts_or : (f : ℕ → ℕ) (k n low x out : ℕ) → low ≡ k * n → low + k ≤ 64 → x < 2 ^ k → f n ≡ x * 2 ^ low → Parts f k n out → Parts f k (n + 1) (bit_or out (x * 2 ^ low % 2 ^ 64))
 parts_or f k n low x out place within small part before =
     let fits : out < 2 ^ low = subst (λ (i : ℕ). out < 2 ^ i) (sym place) before.fits in

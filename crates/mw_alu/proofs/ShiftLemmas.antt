@@ -22,7 +22,7 @@ shr_out x n fits far =
     let m : 2 ^ 64 ≤ 2 ^ n = pow_mono {i = 64} {j = n} far in
     div-eq_of_lt (omega arith)
 
--- where fewer places are left, the places are these
+-- fewer than 63 places are the lesser of themselves and 63
 few_places : (n : ℕ) → n < 63 → min n 63 ≡ n
 few_places n few = omega arith
 
@@ -35,7 +35,7 @@ many_places a n fits many =
     let right : a / 2 ^ n ≡ 0 = div-eq_of_lt (omega arith) in
     ap (λ i. a / 2 ^ i) e ∙ left ∙ sym right
 
--- either way
+-- a number of 63 bits is shifted right alike by its places and by 63 at most
 by_places : (a n : ℕ) → a < 2 ^ 63 → (n < 63) ⊎ (63 ≤ n) → a / 2 ^ min n 63 ≡ a / 2 ^ n
 by_places a n fits (inl few) = ap (λ i. a / 2 ^ i) (few_places n few)
 by_places a n fits (inr many) = many_places a n fits many
@@ -49,7 +49,7 @@ sign_out (negsuc a) n fits = ap (λ i. 2 ^ 64 - suc i) (by_places a n fits.sfits
 pub low_bits : (x n : ℕ) → n < 64 → bit_and x (1 * 2 ^ n % 2 ^ 64 - 1) ≡ x % 2 ^ n
 low_bits x n within = ap (λ i. bit_and x (i - 1)) (one_shl n 64 within) ∙ and_mask x n
 
--- all bits are
+-- from 64 places on a shift to the right takes all bits away
 pub all_bits : (x n : ℕ) → x < 2 ^ 64 → 64 ≤ n → x % 2 ^ n ≡ x
 all_bits x n fits far =
     let m : 2 ^ 64 ≤ 2 ^ n = pow_mono {i = 64} {j = n} far in

@@ -27,6 +27,6 @@ overflows_word x y k = is_outside (negsuc 0x7FFF_FFFF) (pos 0x7FFF_FFFF) (cast_s
 abbrev pub sum_of : ℕ → ℕ → ℕ → AluOut
 sum_of x y k = record { value = (x + y + k) % 2 ^ 64; ca = carries x y k; ca32 = carries_word x y k; ov = overflows x y k; ov32 = overflows_word x y k }
 
--- such a sum where OV is the carry: its carries stand in ov and ov32
+-- a sum of three numbers where OV is the carry: its carries stand in ov and ov32
 abbrev pub sum_by_ov : ℕ → ℕ → ℕ → AluOut
 sum_by_ov x y k = record { value = (x + y + k) % 2 ^ 64; ca = false; ca32 = false; ov = carries x y k; ov32 = carries_word x y k }

@@ -27,7 +27,7 @@ fn overflows(x: u64, y: u64, more: bool) -> bool
     is_positive == (y < 0x8000_0000_0000_0000) && is_positive != (sum < 0x8000_0000_0000_0000)
 }
 
-/// Whether the sum of the signed low words doesn't fit 32 bits, told in the same way.
+/// Whether the sum of the signed low words doesn't fit 32 bits: both have one sign, the sum the other.
 fn overflows_word(x: u64, y: u64, more: bool) -> bool
     ensures { result ≡ overflows_word x y (from_bool more) }
 {
@@ -52,7 +52,7 @@ pub fn sum_of(x: u64, y: u64, more: bool) -> AluOut
     }
 }
 
-/// The same sum where OV is the carry: its carries stand in place of the overflows (addex).
+/// The sum of two numbers, and of 1 where OV is 1: its carries stand in place of the overflows (addex).
 pub fn sum_by_ov(x: u64, y: u64, more: bool) -> AluOut
     ensures { result ≡ sum_by_ov x y (from_bool more) }
 {

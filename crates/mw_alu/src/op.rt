@@ -147,7 +147,7 @@ pub enum AluOp {
     Cmpb,
 }
 
-/// What such a row gives.
+/// What a row gives that is done in one cycle: its result, carries and overflows.
 #[derive(Clone, Copy, Debug, PartialEq, Eq)]
 pub struct AluOut {
     /// The result.

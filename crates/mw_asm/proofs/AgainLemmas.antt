@@ -135,6 +135,6 @@ module _ (insn : Insn) (is : IsInsn insn) (at : ℕ) where
     second = statement-second (omega arith);
   }
 
-  -- and assembles to them
+  -- the statement of an instruction assembles to the instruction's words
   pub statement-assembles : at + code_size insn.row ≤ image_limit → AssemblesTo (statement_text insn at) at (code_bytes (encode_of insn))
   statement-assembles room = gives-AssemblesTo at (statement_text insn at) (code_bytes (encode_of insn)) (omega arith) (statement-gives room)

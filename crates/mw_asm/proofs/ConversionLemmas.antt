@@ -25,7 +25,7 @@ by_answer f operand false false readable is to from = refl
 by_answer f operand true false readable is to from = sym ((Decides-int_eq (operand_from f (bits_from f operand)) operand).1 (InRange-bits f operand readable (to refl))) ∙ is
 by_answer f operand false true readable is to from = from (bits-InRange f operand ((Decides-int_eq (operand_from f (bits_from f operand)) operand).0 is))
 
--- the field's answer is the test
+-- what the code answers of an operand in a field is whether the field can hold it
 pub in_field-fits : (f : Field) (operand : ℤ) (answer : Bool) → is_readable f ≡ true → (answer ≡ true → InRange f operand) → (InRange f operand → answer ≡ true) → answer ≡ fits_field f operand
 in_field-fits f operand answer readable to from = by_answer f operand answer (fits_field f operand) readable refl to from
 
@@ -61,6 +61,6 @@ outside-fits f operand readable out = by_none f operand (fits_field f operand) r
 pub fits_field-fits : (f : Field) (operand : ℤ) → is_readable f ≡ true → fits_field f operand ≡ true → FitsSigned w64 operand
 fits_field-fits f operand readable fits = InRange-fits f operand readable (bits-InRange f operand ((Decides-int_eq (operand_from f (bits_from f operand)) operand).0 fits))
 
--- such an operand is held as it is
+-- an operand that its field can hold is held as it is
 pub if_fits-held : (f : Field) (operand : ℤ) → is_readable f ≡ true → fits_field f operand ≡ true → Some (to_z w64 (of_z w64 operand)) ≡ if_fits f (Some operand)
 if_fits-held f operand readable fits = ap (λ (z : ℤ). Some z) (to_z-of_z w64 operand (fits_field-fits f operand readable fits)) ∙ sym (rw fits)

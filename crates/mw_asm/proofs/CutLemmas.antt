@@ -14,7 +14,7 @@ is_feed byte = byte == 10
 next_place : (k : ℕ) → suc k + 1 ≡ suc (k + 1)
 next_place k = omega arith
 
--- where a line feed stands at a place and none before it
+-- the first line of a text ends at its first line feed
 pub lines_of-cut : (text : List ℕ) (place : ℕ) → ((k : ℕ) → k < place → is_feed (get_or text k 0) ≡ false) → place < length text → is_feed (get_or text place 0) ≡ true → lines_of text ≡ take place text ∷ lines_of (drop (place + 1) text)
 lines_of-cut [] place before lt is = absurd (omega arith)
 lines_of-cut (x ∷ xs) zero before lt is = slice_split-cons_yes is_feed x xs is
@@ -23,7 +23,7 @@ lines_of-cut (x ∷ xs) (suc k) before lt is =
     ∙ ap (onto_first x) (lines_of-cut xs k (λ j lt. before (suc j) (omega arith)) (omega arith) is)
     ∙ ap (λ (n : ℕ). (x ∷ take k xs) ∷ lines_of (drop n (x ∷ xs))) (sym (next_place k))
 
--- where none stands
+-- a text without a line feed is its one line
 pub lines_of-one : (text : List ℕ) → ((k : ℕ) → k < length text → is_feed (get_or text k 0) ≡ false) → lines_of text ≡ text ∷ []
 lines_of-one [] before = refl
 lines_of-one (x ∷ xs) before =
@@ -40,7 +40,7 @@ cut-last text line behind cut is = cut ∙ ap (λ o. line ∷ option_map_or (λ 
 pub cut-shorter : (text : List ℕ) (behind : Option (Bor (List ℕ))) (rest : Bor (List ℕ)) → IfSome behind (λ b. length b.now < length text) → behind ≡ Some rest → length rest.now < length text
 cut-shorter text behind rest shorter is = let family : Option (Bor (List ℕ)) → Type 0 = λ o. IfSome o (λ b. length b.now < length text) in subst family is shorter
 
--- there is a line
+-- a list of lines has a first one
 record SomeLines (lines : List (List ℕ)) : Type 0 where
   pub first : List ℕ
   pub others : List (List ℕ)

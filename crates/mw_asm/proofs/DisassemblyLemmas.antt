@@ -23,7 +23,7 @@ pub behind-some : (bytes : List ℕ) → 0 < length bytes → behind_name bytes 
 behind-some [] some = absurd (omega arith)
 behind-some (byte ∷ bytes) some = refl
 
--- behind the name, by what an operand list begins with
+-- what is printed behind a name, by what the operand list begins with
 pub behind-none : (items : List Item) (zs : List ℤ) → slice_get items 0 ≡ None → (aa : Bool) (at : ℕ) → behind_name (operands_text items aa at zs) ≡ []
 unfolding operands_text
 behind-none [] zs given aa at = refl
@@ -65,17 +65,17 @@ behind-close (Comma ∷ items) zs given aa at = absurd (cc)
 behind-close (Open ∷ items) zs given aa at = absurd (cc)
 behind-close (Close ∷ items) zs given aa at = refl
 
--- at an operand that isn't there
+-- no operand is printed where none is left for the list
 pub text-without : (items : List Item) (i : ℕ) (d : Item) (kind : Kind) (zs : List ℤ) (place : ℕ) (aa : Bool) (at : ℕ) → i < length items → get_or items i d ≡ Operand kind → length zs ≤ place → operands_text (drop i items) aa at (drop place zs) ≡ []
 unfolding operands_text
 text-without items i d kind zs place aa at lt is none = rw (drop_more items i d lt, is, drop_all place zs none) refl
 
--- at an operand
+-- the text of an operand that stands next in an operand list
 pub text-operand : (items : List Item) (i : ℕ) (d : Item) (kind : Kind) (zs : List ℤ) (place : ℕ) (z : ℤ) (aa : Bool) (at : ℕ) → i < length items → get_or items i d ≡ Operand kind → place < length zs → z ≡ get_or zs place z → operands_text (drop i items) aa at (drop place zs) ≡ operand_text kind aa at z ++ operands_text (drop (i + 1) items) aa at (drop (place + 1) zs)
 unfolding operands_text
 text-operand items i d kind zs place z aa at lt is there e = rw (drop_more items i d lt, is, drop_more zs place z there, ← e) refl
 
--- at a mark
+-- the text of a mark that stands next in an operand list
 pub text-comma : (items : List Item) (i : ℕ) (d : Item) (zs : List ℤ) (aa : Bool) (at : ℕ) → i < length items → get_or items i d ≡ Comma → operands_text (drop i items) aa at zs ≡ codes "," ++ operands_text (drop (i + 1) items) aa at zs
 unfolding operands_text
 text-comma items i d zs aa at lt is = rw (drop_more items i d lt, is) refl
@@ -88,21 +88,21 @@ pub text-close : (items : List Item) (i : ℕ) (d : Item) (zs : List ℤ) (aa : 
 unfolding operands_text
 text-close items i d zs aa at lt is = rw (drop_more items i d lt, is) refl
 
--- behind the last item
+-- nothing is printed behind the last item of an operand list
 pub text-end : (items : List Item) (i : ℕ) (zs : List ℤ) (aa : Bool) (at : ℕ) → length items ≤ i → operands_text (drop i items) aa at zs ≡ []
 unfolding operands_text
 text-end items i zs aa at end = rw (drop_all i items end) refl
 
--- a piece more is written
+-- a text grows by a piece of what is left to be written
 pub piece-more : (text next piece left rest whole : List ℕ) → next ≡ text ++ piece → left ≡ piece ++ rest → text ++ left ≡ whole → next ++ rest ≡ whole
 piece-more text next piece left rest whole added is same =
     ap (λ t. t ++ rest) added ∙ append_assoc text piece rest ∙ ap (λ l. text ++ l) (sym is) ∙ same
 
--- nothing is left to be written
+-- a text is whole where nothing is left to be written
 pub piece-none : (text left whole : List ℕ) → left ≡ [] → text ++ left ≡ whole → text ≡ whole
 piece-none text left whole none same = sym (append-nil text) ∙ ap (λ l. text ++ l) (sym none) ∙ same
 
--- the lines of entries
+-- the lines of the entries of so many words from an address on
 abbrev pub lines_from : ℕ → Bool → List ℕ → ℕ → List ℕ
 lines_from left suffix image at = flat_map entry_text (entries_from left suffix image at)
 

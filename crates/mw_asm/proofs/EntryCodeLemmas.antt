@@ -40,7 +40,7 @@ insn_at-row code found insn e =
 abbrev kind_size : PrefixKind → ℕ
 kind_size kind = if nat_lt 0 (kind_number kind) then 8 else 4
 
--- the same of a row
+-- how many bytes an instruction of a row has, by the row's prefix
 abbrev row_size : Option TableRow → ℕ
 row_size row = if option_map_or (λ (r : TableRow). nat_lt 0 (kind_number r.prefix)) row false then 8 else 4
 
@@ -49,11 +49,11 @@ row-size : (kind : PrefixKind) (word : ℕ) (row : Option TableRow) → IsSomeAn
 row-size kind word None there = absurd there
 row-size kind word (Some row) there = ap (λ n. if nat_lt 0 n then 8 else 4) (eqb-true _ _ (and_parts _ _ there).0)
 
--- so has the row at the place of a word, or of a suffix
+-- the row at the place of a word, or of a suffix, has the size of its kind
 place-size : (kind : PrefixKind) (word place : ℕ) → row_place kind word ≡ Some place → code_size place ≡ kind_size kind
 place-size kind word place e = row-size kind word (slice_get table place) (row_place-MatchesAt kind word place e)
 
--- behind a prefix no row is plain, so it has eight bytes
+-- behind a prefix no row is plain, so an instruction there has eight bytes
 behind-size : (prefix suffix place : ℕ) → place_of prefix (Some suffix) ≡ Some place → code_size place ≡ 8
 behind-size prefix suffix place e = grind (arith, place-size Mls, place-size Eight, place-size Nop)
 
@@ -102,7 +102,7 @@ insn-IsEntry at word suffix insn is =
       exact = λ below clear. ap code_bytes (encode_of-decoded insn word suffix below is clear);
     }
 
--- by what the word is
+-- the entry of a word with its suffix has what an entry has, by what they decode to
 by-IsEntry : (at word : ℕ) (suffix : Option ℕ) (decoded : Decoded) → decode_of word suffix ≡ decoded → IsEntry at word suffix (entry_by at word suffix decoded)
 by-IsEntry at word suffix (Is insn) is = insn-IsEntry at word suffix insn is
 by-IsEntry at word suffix (Unavailable facility) is = long-IsEntry at word suffix

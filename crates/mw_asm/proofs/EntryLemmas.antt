@@ -13,7 +13,7 @@ use Rattle.mw_asm.specs.Again.{encoded_entry, entry_bytes, IsClear, IsExactIfCle
 use Rattle.mw_asm.proofs.PrintedForms.{GivesBytes}
 use Rattle.mw_asm.proofs.EntryCodeLemmas.{size_by, IsEntry, entry_with-IsEntry}
 
--- what a suffix is: the word behind, and it begins in the image
+-- the suffix of a word is the word behind it, and begins in the image
 abbrev IsSuffix : List ℕ → ℕ → ℕ → Type 0
 IsSuffix image at suffix = (suffix ≡ image_word image (at + 4)) × (at + 4 < length image)
 
@@ -168,7 +168,7 @@ suffix-bytes : (image : List ℕ) (at : ℕ) (suffix : Option ℕ) → IfSome su
 suffix-bytes image at None is = refl
 suffix-bytes image at (Some s) is = ap word_bytes is.0
 
--- and that word is one of those that are left
+-- the suffix of an entry is one of the words that are left
 suffix-left : (image : List ℕ) (at left count : ℕ) (suffix : Option ℕ) → IfSome suffix (IsSuffix image at) → at + 4 * suc left ≡ 4 * count → length image ≤ 4 * count → is_some suffix ≡ true → 0 < left
 suffix-left image at left count None is ends whole some = absurd (true≢false (sym some))
 suffix-left image at left count (Some s) is ends whole some = let within : at + 4 < length image = is.1 in omega arith

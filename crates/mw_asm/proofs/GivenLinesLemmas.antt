@@ -47,7 +47,7 @@ empty-second : (at : ℕ) → second_line [] at [] ≡ Ok []
 unfolding second_line line_of tokens_from
 empty-second at = refl
 
--- the first pass finds no label
+-- the first pass over lines that give their bytes finds no label
 first-given : (number at : ℕ) (lines parts : List (List ℕ)) → AreGiven at lines parts → first_pass number (record { at = at; known = [] }) (lines ++ [] ∷ []) ≡ Ok []
 first-given number at [] parts given = ap (λ (r : Result Pass Refusal). and_then number r (λ (next : Pass). Ok next.known)) (empty-first at)
 first-given number at (line ∷ lines) [] given = absurd given
@@ -55,7 +55,7 @@ first-given number at (line ∷ lines) (bytes ∷ parts) given =
     ap (λ (r : Result Pass Refusal). and_then number r (λ (next : Pass). first_pass (number + 1) next (lines ++ [] ∷ []))) given.0.first
     ∙ first-given (number + 1) (at + length bytes) lines parts given.1
 
--- and the second gives the bytes
+-- the second pass over lines that give their bytes gives these bytes
 second-given : (number at : ℕ) (lines parts : List (List ℕ)) → AreGiven at lines parts → second_pass number [] at (lines ++ [] ∷ []) ≡ Ok (concat parts)
 second-given number at [] [] given = ap (λ (r : Result (List ℕ) Refusal). and_then number r (λ (bytes : List ℕ). in_front bytes (Ok []))) (empty-second at)
 second-given number at [] (bytes ∷ parts) given = absurd given
@@ -64,11 +64,11 @@ second-given number at (line ∷ lines) (bytes ∷ parts) given =
     ap (λ (r : Result (List ℕ) Refusal). and_then number r (λ (bs : List ℕ). in_front bs (second_pass (number + 1) [] (at + length bs) (lines ++ [] ∷ [])))) given.0.second
     ∙ ap (in_front bytes) (second-given (number + 1) (at + length bytes) lines parts given.1)
 
--- both passes over such lines and an empty last one
+-- both passes over lines that give their bytes, and an empty line behind them, give the bytes
 pub given-passes : (lines : List (List ℕ)) (parts : List (List ℕ)) → AreGiven 0 lines parts → both_passes (lines ++ [] ∷ []) (first_pass 1 start (lines ++ [] ∷ [])) ≡ Ok (concat parts)
 given-passes lines parts given = ap (both_passes (lines ++ [] ∷ [])) (first-given 1 0 lines parts given) ∙ second-given 1 0 lines parts given
 
--- a source of such lines that isn't too long
+-- a source of lines that give their bytes, if it isn't too long, gives the bytes
 pub given-assembled : (lines parts : List (List ℕ)) → AreGiven 0 lines parts → length (source_of lines) ≤ source_limit → assembled (source_of lines) ≡ Ok (concat parts)
 unfolding assembled
 given-assembled lines parts given short =

@@ -48,12 +48,12 @@ and_bytes-ok : (old bytes : List ℕ) (r : Result (List ℕ) Refusal) → and_by
 and_bytes-ok old bytes (Ok others) = ap Ok (append_assoc old bytes others)
 and_bytes-ok old bytes (Err refused) = refl
 
--- a value that is refused refuses all
+-- a value that is refused refuses all values of its data
 pub value-refused : (labels : List Placed) (at : ℕ) (line : List ℕ) (unit : DataUnit) (es : List Expression) (place : ℕ) (e : Expression) (old : List ℕ) (refused : Refusal) (whole : Result (List ℕ) Refusal) →
     slice_get es place ≡ Some e → value_by unit e (value_of labels at line e) ≡ Err refused → and_bytes (Ok old) (data_bytes labels at line unit (drop place es)) ≡ whole → whole ≡ Err refused
 value-refused labels at line unit es place e old refused whole there is same = sym same ∙ rw (data_bytes-more labels at line unit es place e there, is) refl
 
--- a value more
+-- the bytes of one value more stand behind those before it
 pub value-more : (labels : List Placed) (at : ℕ) (line : List ℕ) (unit : DataUnit) (es : List Expression) (place : ℕ) (e : Expression) (old new bytes : List ℕ) (whole : Result (List ℕ) Refusal) →
     slice_get es place ≡ Some e → value_by unit e (value_of labels at line e) ≡ Ok bytes → new ≡ old ++ bytes → and_bytes (Ok old) (data_bytes labels at line unit (drop place es)) ≡ whole → and_bytes (Ok new) (data_bytes labels at line unit (drop (place + 1) es)) ≡ whole
 value-more labels at line unit es place e old new bytes whole there is behind same =
@@ -62,13 +62,13 @@ value-more labels at line unit es place e old new bytes whole there is behind sa
     ∙ sym (rw (data_bytes-more labels at line unit es place e there, is) refl)
     ∙ same
 
--- no value is left
+-- where no value is left the bytes of the data are whole
 pub values-end : (labels : List Placed) (at : ℕ) (line : List ℕ) (unit : DataUnit) (es : List Expression) (place : ℕ) (old : List ℕ) (whole : Result (List ℕ) Refusal) → length es ≤ place → and_bytes (Ok old) (data_bytes labels at line unit (drop place es)) ≡ whole → whole ≡ Ok old
 unfolding data_bytes
 values-end labels at line unit es place old whole past same =
     sym same ∙ at_drop_all (λ left. and_bytes (Ok old) (data_bytes labels at line unit left)) es place past ∙ ap Ok (append-nil old)
 
--- some zeros of those that are left
+-- some of the zeros that are left are appended
 pub zeros-more : (old new zeros whole : List ℕ) (left piece : ℕ) → zeros ≡ replicate piece 0 → piece ≤ left → new ≡ old ++ zeros → old ++ replicate left 0 ≡ whole → new ++ replicate (left - piece) 0 ≡ whole
 zeros-more old new zeros whole left piece all within is same =
     let parts : piece + (left - piece) ≡ left = omega arith in

@@ -69,14 +69,14 @@ operands_of-more : (labels : List Placed) (at : ℕ) (line : List ℕ) (aa : Boo
 unfolding operands_of
 operands_of-more labels at line aa es ks fs place e k f there kind field = rw (drop_at es place e there, drop_at ks place k kind, drop_at fs place f field) refl
 
--- an operand that is refused refuses all
+-- an operand that is refused refuses all operands of its instruction
 pub operands-refused : (labels : List Placed) (at : ℕ) (line : List ℕ) (aa : Bool) (es : List Expression) (ks : List Kind) (fs : List Field) (place : ℕ) (e : Expression) (k : Kind) (f : Field) (front : List ℤ) (refused : Refusal) (whole : Result (List ℤ) Refusal) →
     slice_get es place ≡ Some e → slice_get ks place ≡ Some k → slice_get fs place ≡ Some f → operand_by e k f aa at (value_of labels at line e) ≡ Err refused
     → before front (operands_of labels at line aa (drop place es) (drop place ks) (drop place fs)) ≡ whole → whole ≡ Err refused
 operands-refused labels at line aa es ks fs place e k f front refused whole there kind field is same =
     sym same ∙ rw (operands_of-more labels at line aa es ks fs place e k f there kind field, is) refl
 
--- an operand more
+-- one operand more stands behind those before it
 pub operands-more : (labels : List Placed) (at : ℕ) (line : List ℕ) (aa : Bool) (es : List Expression) (ks : List Kind) (fs : List Field) (place : ℕ) (e : Expression) (k : Kind) (f : Field) (front : List ℤ) (operand : ℤ) (whole : Result (List ℤ) Refusal) →
     slice_get es place ≡ Some e → slice_get ks place ≡ Some k → slice_get fs place ≡ Some f → operand_by e k f aa at (value_of labels at line e) ≡ Ok operand
     → before front (operands_of labels at line aa (drop place es) (drop place ks) (drop place fs)) ≡ whole
@@ -86,7 +86,7 @@ operands-more labels at line aa es ks fs place e k f front operand whole there k
     ∙ sym (rw (operands_of-more labels at line aa es ks fs place e k f there kind field, is) refl)
     ∙ same
 
--- no operand is left
+-- where no operand is left the operands are whole
 pub operands-end : (labels : List Placed) (at : ℕ) (line : List ℕ) (aa : Bool) (es : List Expression) (ks : List Kind) (fs : List Field) (place : ℕ) (front : List ℤ) (whole : Result (List ℤ) Refusal) →
     length es ≤ place → before front (operands_of labels at line aa (drop place es) (drop place ks) (drop place fs)) ≡ whole → whole ≡ Ok front
 unfolding operands_of
@@ -142,11 +142,11 @@ read-HasOperands labels at line mnemonic es ks fs operands means count kinds fie
     subst (λ gs. HasOperands (written_fields mnemonic.pattern gs) operands) fields
     (operands_of-HasOperands labels at line mnemonic.aa es ks (written_fields mnemonic.pattern fs) operands (count ∙ ap length (sym kinds)) (ap length kinds ∙ means.count ∙ ap (λ gs. length (written_fields mnemonic.pattern gs)) (sym fields)) is)
 
--- as many as are written
+-- a mnemonic has as many operands as are written for it
 pub read-count : (mnemonic : Mnemonic) (operands : List ℤ) → MeansRow mnemonic → HasOperands (written_fields mnemonic.pattern (fields_at mnemonic.row)) operands → length operands ≡ length (kinds_of (pattern_items mnemonic.pattern (shape_at mnemonic.row)))
 read-count mnemonic operands means has = HasOperands-length (written_fields mnemonic.pattern (fields_at mnemonic.row)) operands has ∙ sym means.count
 
--- the instruction of such operands, unless it is an illegal form
+-- the instruction of a mnemonic with operands that fit is one of the table, unless it is an illegal form
 pub insn_of-IsInsn : (mnemonic : Mnemonic) (operands : List ℤ) (insn : Insn) → MeansRow mnemonic → HasOperands (written_fields mnemonic.pattern (fields_at mnemonic.row)) operands → insn ≡ insn_of mnemonic operands → is_illegal_form insn.row insn.ops.items ≡ false → IsInsn insn
 insn_of-IsInsn mnemonic operands insn means has is legal =
     subst IsInsn (sym is)

@@ -112,7 +112,7 @@ mnemonic_of-MeansRow name mnemonic e =
 pub MeansRow-forms : (mnemonic : Mnemonic) (operands : List ℤ) → MeansRow mnemonic → IsSomeAnd (slice_get table mnemonic.row) (λ row. HasForms row (insn_of mnemonic operands))
 MeansRow-forms mnemonic operands means = subst (λ o. IsSomeAnd o (λ row. HasForms row (insn_of mnemonic operands))) (sym means.there) (means.forms operands)
 
--- constants fit, and what is written fills the rest
+-- a pattern's constants fit the row's fields, and the operands that are written fill the other fields
 filled_operands : (pattern : Pattern) (layout : Layout) (operands : List ℤ) → HasOperands (written_fields pattern (fields_of (layout_for pattern layout))) operands → HasOperands (fields_of (layout_for pattern layout)) (filled pattern operands)
 filled_operands Row layout zs has = has
 filled_operands Li layout [] has = absurd has
@@ -143,7 +143,7 @@ MeansRow-operands mnemonic operands means has =
     subst (λ fs. HasOperands fs (filled mnemonic.pattern operands)) (sym same)
     (filled_operands mnemonic.pattern means.layout operands (subst (λ fs. HasOperands (written_fields mnemonic.pattern fs) operands) same has))
 
--- the same as a fact on the layout at the place of the row
+-- operands that the written fields can hold fill the layout at the place of the row
 pub MeansRow-laid : (mnemonic : Mnemonic) (operands : List ℤ) → MeansRow mnemonic → HasOperands (written_fields mnemonic.pattern (fields_at mnemonic.row)) operands → IsSomeAnd (slice_get layouts mnemonic.row) (λ layout. HasOperands (fields_of layout) (insn_of mnemonic operands).ops.items)
 MeansRow-laid mnemonic operands means has =
     subst (λ o. IsSomeAnd o (λ layout. HasOperands (fields_of layout) (filled mnemonic.pattern operands))) (sym means.laid)

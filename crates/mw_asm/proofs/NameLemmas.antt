@@ -34,7 +34,7 @@ record Stands {X : Type 0} (xs : List X) (x : X) : Type 0 where
   pub place : ℕ
   pub there : slice_get xs place ≡ Some x
 
--- it also stands in the list with one more in front
+-- an element that stands in a list stands in the list with one more in front
 stands_next : {X : Type 0} (y : X) (xs : List X) (x : X) → Stands xs x → Stands (y ∷ xs) x
 stands_next y xs x stands = record { place = suc stands.place; there = stands.there }
 
@@ -47,12 +47,12 @@ in_front (y ∷ xs) ys x (suc k) there = in_front xs ys x k there
 stands_front : {X : Type 0} (xs ys : List X) (x : X) → Stands xs x → Stands (xs ++ ys) x
 stands_front xs ys x stands = record { place = stands.place; there = in_front xs ys x stands.place stands.there }
 
--- and with more in front
+-- what stands in a list stands in it with more in front
 stands_behind : {X : Type 0} (xs ys : List X) (x : X) → Stands ys x → Stands (xs ++ ys) x
 stands_behind [] ys x stands = stands
 stands_behind (y ∷ xs) ys x stands = stands_next y (xs ++ ys) x (stands_behind xs ys x stands)
 
--- its image stands in the images
+-- the image of what stands in a list stands in the list of images
 stands_map : {X Y : Type 0} (f : X → Y) (xs : List X) (x : X) → Stands xs x → Stands (map f xs) (f x)
 stands_map f xs x stands = record { place = stands.place; there = slice_get-map f xs stands.place ∙ ap (option_map f) stands.there }
 
@@ -97,7 +97,7 @@ stands_from (r ∷ rows) from at (suc k) row s sum there stands =
     let next : from + 1 + k ≡ at = omega arith in
     stands_behind (row_spellings from r) (spellings_from (from + 1) rows) s (stands_from rows (from + 1) at k row s next there stands)
 
--- so the spelling of an instruction is, by the row at its place
+-- the spelling of an instruction is among the spellings, by the row at its place
 spelling_by : (insn : Insn) (row : Option TableRow) → slice_get table insn.row ≡ row → IsSomeAnd row (λ r. HasForms r insn) → Stands spellings (spelling_of insn)
 unfolding spellings
 spelling_by insn None there has = absurd has
@@ -143,37 +143,37 @@ name-means insn is = spelling-means (spelling_of insn) (insn-Stands insn is)
 abbrev is_short_word : List ℕ → Bool
 is_short_word name = is_word name && (not (bytes_eq name (codes ".org")) && nat_le (length name) 20)
 
--- all spellings have such names
+-- every spelling's name is a short word other than `.org`
 spellings_words : map (λ (s : Spelling). is_short_word s.name) spellings ≡ map (λ (s : Spelling). true) spellings
 unfolding spellings table lines
 spellings_words = refl
 
--- and no spelling is a directive of data
+-- no spelling's name is a directive of data
 spellings_units : map (λ (s : Spelling). unit_of s.name) spellings ≡ map (λ (s : Spelling). None) spellings
 unfolding spellings table lines
 spellings_units = refl
 
--- so an instruction's name is such a word
+-- an instruction's name is a short word other than `.org`
 insn-is_short_word : (insn : Insn) → IsInsn insn → is_short_word (spelling_of insn).name ≡ true
 insn-is_short_word insn is =
     let stands = insn-Stands insn is in
     same_at (λ (s : Spelling). is_short_word s.name) (λ (s : Spelling). true) spellings spellings_words stands.place (spelling_of insn) stands.there
 
--- it is a word
+-- an instruction's name is a word
 pub name-word : (insn : Insn) → IsInsn insn → is_word (spelling_of insn).name ≡ true
 name-word insn is = (and_parts _ _ (insn-is_short_word insn is)).0
 
--- it is not `.org`
+-- an instruction's name is not `.org`
 pub name-org : (insn : Insn) → IsInsn insn → bytes_eq (spelling_of insn).name (codes ".org") ≡ false
 name-org insn is = not-true _ (and_parts _ _ (and_parts _ _ (insn-is_short_word insn is)).1).0
 
--- it is no directive of data
+-- an instruction's name is no directive of data
 pub name-unit : (insn : Insn) → IsInsn insn → unit_of (spelling_of insn).name ≡ None
 name-unit insn is =
     let stands = insn-Stands insn is in
     same_at (λ (s : Spelling). unit_of s.name) (λ (s : Spelling). None) spellings spellings_units stands.place (spelling_of insn) stands.there
 
--- it is short
+-- an instruction's name has at most 20 bytes
 pub name-short : (insn : Insn) → IsInsn insn → length (spelling_of insn).name ≤ 20
 name-short insn is = leb-true _ _ (and_parts _ _ (and_parts _ _ (insn-is_short_word insn is)).1).1
 
@@ -193,14 +193,14 @@ layouts_listed : map (λ (layout : Layout). is_listed (items_of (shape_of layout
 unfolding layouts lines
 layouts_listed = refl
 
--- so it does at a row of this operand list and these fields
+-- the items of an instruction whose row has this operand list and these fields fit the fields
 listed_of : (insn : Insn) (shape : Shape) (fields : List Field) → shape_at insn.row ≡ shape → fields_at insn.row ≡ fields → is_listed (items_of shape) fields ≡ true → HasOperands fields insn.ops.items → IsListed insn
 listed_of insn shape fields shaped laid listed has =
     let first = and_parts _ _ (ap (λ s. is_listed (items_of s) (fields_at insn.row)) shaped ∙ ap (is_listed (items_of shape)) laid ∙ listed) in
     let second = and_parts _ _ first.1 in
     record { separated = first.0; short = leb-true _ _ second.0; hold = second.1; has = subst (λ fs. HasOperands fs insn.ops.items) (sym laid) has }
 
--- so it does at the row of an instruction, by its layout
+-- the items of an instruction fit its fields, by its row and its layout
 listed_by : (insn : Insn) (row : Option TableRow) (layout : Option Layout) → slice_get table insn.row ≡ row → slice_get layouts insn.row ≡ layout → IsSomeAnd row (λ r. HasForms r insn) → IsSomeAnd layout (λ l. HasOperands (fields_of l) insn.ops.items) → IsListed insn
 listed_by insn None layout there laid forms has = absurd forms
 listed_by insn (Some row) None there laid forms has = absurd has

@@ -43,7 +43,7 @@ registers-named n below = agree_below_at (λ k. is_number (register_of (114 ∷ 
 register_of-decimal : (n : ℕ) → n < 32 → register_of (114 ∷ decimal n) ≡ Some n
 register_of-decimal n below = is_number-Some (register_of (114 ∷ decimal n)) n (registers-named n below)
 
--- no sign stands there
+-- the token that may stand there is no sign
 abbrev no_sign : Option TokenKind → Bool
 no_sign (Some Plus) = false
 no_sign (Some Minus) = false
@@ -55,20 +55,20 @@ addend-none column base place (Some Plus) behind free = cc
 addend-none column base place (Some Minus) behind free = cc
 addend-none column base place other behind free = refl
 
--- a number
+-- a number that no sign follows is read as an expression
 expression-number : (tokens : List Token) (column place n : ℕ) (first second : Option TokenKind) → first ≡ Some (Number n) → no_sign (kind_at tokens (place + 1)) ≡ true → expression_by tokens column place first second ≡ Ok (read_of column (BaseNumber n) Nothing (place + 1))
 expression-number tokens column place n first second is free =
     ap (λ k. expression_by tokens column place k second) is
     ∙ addend-none column (BaseNumber n) (place + 1) (kind_at tokens (place + 1)) (kind_at tokens (place + 1 + 1)) free
 
--- a number behind `-`
+-- a number behind `-` that no sign follows is read as an expression
 expression-negative : (tokens : List Token) (column place n : ℕ) (first second : Option TokenKind) → first ≡ Some Minus → second ≡ Some (Number n) → no_sign (kind_at tokens (place + 2)) ≡ true → expression_by tokens column place first second ≡ Ok (read_of column (Negative n) Nothing (place + 2))
 expression-negative tokens column place n first second is number free =
     ap (λ k. expression_by tokens column place k second) is
     ∙ ap (λ k. expression_by tokens column place (Some Minus) k) number
     ∙ addend-none column (Negative n) (place + 2) (kind_at tokens (place + 2)) (kind_at tokens (place + 2 + 1)) free
 
--- a token behind others
+-- a token behind others, by its place among those behind them
 token-behind : (front ts : List Token) (k : ℕ) → slice_get (front ++ ts) (length front + k) ≡ slice_get ts k
 token-behind [] ts k = ap (slice_get ts) (omega arith)
 token-behind (token ∷ front) ts k = let next : suc (length front) + k ≡ suc (length front + k) = omega arith in ap (slice_get (token ∷ front ++ ts)) next ∙ token-behind front ts k
@@ -85,11 +85,11 @@ kind-at front ts tokens place k is long = ap (λ o. option_map (λ (token : Toke
 kind-first : (front ts tokens : List Token) (place : ℕ) → tokens ≡ front ++ ts → length front ≡ place → kind_at tokens place ≡ kind_at ts 0
 kind-first front ts tokens place is long = ap (λ o. option_map (λ (token : Token). token.kind) o) (token-first front ts tokens place is long)
 
--- the column of a token
+-- the column of a token at a place of a line
 column-first : (front ts tokens : List Token) (line : List ℕ) (token : Token) (place : ℕ) → tokens ≡ front ++ token ∷ ts → length front ≡ place → column_at line tokens place ≡ token.from + 1
 column-first front ts tokens line token place is long = ap (λ o. option_map_or (λ (t : Token). t.from + 1) o (length line + 1)) (token-first front (token ∷ ts) tokens place is long)
 
--- a column that is known
+-- an expression is read at a column that is equal to its own
 read-column : (column other : ℕ) (base : Base) (next : ℕ) (read : Result Read ℕ) → column ≡ other → read ≡ Ok (read_of column base Nothing next) → read ≡ Ok (read_of other base Nothing next)
 read-column column other base next read same is = is ∙ ap (λ k. Ok (read_of k base Nothing next)) same
 
@@ -155,7 +155,7 @@ behind-no_sign kind (Comma ∷ items) aa at zs place separated = refl
 behind-no_sign kind (Open ∷ items) aa at zs place separated = refl
 behind-no_sign kind (Close ∷ items) aa at zs place separated = refl
 
--- nothing is left
+-- no operand is read where no item and no token is left
 read-end : (line : List ℕ) (front tokens : List Token) (place : ℕ) → tokens ≡ front ++ [] → length front ≡ place → operands_at [] line tokens place ≡ Ok []
 unfolding operands_at
 read-end line front tokens place are long =
@@ -166,14 +166,14 @@ read-end line front tokens place are long =
 and-behind : (expression : Expression) (next : ℕ) (read : Result Read ℕ) (others : ℕ → Result (List Expression) ℕ) (expressions : List Expression) → read ≡ Ok (record { expression = expression; next = next }) → others next ≡ Ok expressions → and_behind read others ≡ Ok (expression ∷ expressions)
 and-behind expression next read others expressions is rest = ap (λ r. and_behind r others) is ∙ ap (with_first expression) rest
 
--- what a line and its tokens are behind one part more
+-- a line and its tokens, cut behind one part more
 line-behind : (before text rest line : List ℕ) → line ≡ before ++ (text ++ rest) → line ≡ (before ++ text) ++ rest
 line-behind before text rest line is = is ∙ sym (append_assoc before text rest)
 
 tokens-behind : (front ts others tokens : List Token) → tokens ≡ front ++ (ts ++ others) → tokens ≡ (front ++ ts) ++ others
 tokens-behind front ts others tokens are = are ∙ sym (append_assoc front ts others)
 
--- how long they are then
+-- how long a line's front and its tokens are with one part more
 line-length : (before text : List ℕ) (base : ℕ) → length before ≡ base → length (before ++ text) ≡ base + length text
 line-length before text base short = length-append before text ∙ ap (λ n. n + length text) short
 
@@ -215,7 +215,7 @@ read-from (Close ∷ items) aa at zs base place before line front tokens separat
     mark-read Close CloseToken 41 base place (operands_text items aa at zs) before line (operands_tokens items aa at zs (base + 1)) front tokens (operands_at items line tokens (place + 1)) (Err place) (operands_expressions items aa at zs (base + 1)) refl is are short long
     (λ beyond past. read-from items aa at zs (base + 1) (place + 1) beyond line past tokens separated writable)
 
--- items have a text
+-- the text of operands whose list has an item has a byte
 items-some : (item : Item) (items : List Item) (aa : Bool) (at : ℕ) (zs : List ℤ) → AreWritable (kinds_of (item ∷ items)) zs → 0 < length (operands_text (item ∷ items) aa at zs)
 unfolding operands_text
 items-some (Operand kind) items aa at [] writable = absurd writable
@@ -234,7 +234,7 @@ behind_name-read (item ∷ items) aa at zs name token separated writable =
     read-from (item ∷ items) aa at zs (length name + 1) 1 (name ++ 32 ∷ []) (name ++ behind_name text) (token ∷ []) (token ∷ operands_tokens (item ∷ items) aa at zs (length name + 1)) separated writable
     (ap (λ bytes. name ++ bytes) (behind-some text (items-some item items aa at zs writable)) ∙ sym (append_assoc name (32 ∷ []) text)) refl (length-append name (32 ∷ [])) refl
 
--- no `:` stands there
+-- the token that may stand there is no `:`
 abbrev no_colon : Option TokenKind → Bool
 no_colon (Some Colon) = false
 no_colon other = true
@@ -252,7 +252,7 @@ operand-no_colon Value aa at (negsuc n) place others writable = refl
 operand-no_colon Target aa at z place others writable = refl
 operand-no_colon Upper aa at z place others writable = absurd writable
 
--- nor do operands
+-- the tokens of operands don't begin with `:`
 operands-no_colon : (items : List Item) (aa : Bool) (at : ℕ) (zs : List ℤ) (place : ℕ) → AreWritable (kinds_of items) zs → no_colon (kind_at (operands_tokens items aa at zs place) 0) ≡ true
 unfolding operands_tokens
 operands-no_colon [] aa at zs place writable = refl

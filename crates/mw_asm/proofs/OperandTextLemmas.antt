@@ -27,11 +27,11 @@ use Rattle.mw_asm.proofs.PrintedForms.{IsClosed, has_no_feed, token_of, number_t
 pub unsigned-text : (n : ℕ) → signed_decimal (pos n) ≡ decimal n
 unsigned-text n = cond-false (int_lt (pos n) (pos 0)) (45 ∷ decimal n) (decimal n) (le-ltb n 0 (omega arith))
 
--- its token
+-- the token of a number without a sign
 pub unsigned-token : (n place : ℕ) → number_tokens (pos n) place ≡ token_of (Number n) place (length (decimal n)) ∷ []
 unsigned-token n place = cond-false (int_lt (pos n) (pos 0)) _ (token_of (Number n) place (length (decimal n)) ∷ []) (le-ltb n 0 (omega arith))
 
--- numbers of 64 bits
+-- a number without a sign that fits 64 signed bits is below 2^64
 unsigned-below : (n : ℕ) → FitsSigned w64 (pos n) → n < 2 ^ 64
 unsigned-below n fits = omega (arith, ints)
 
@@ -45,23 +45,23 @@ register-below n is = omega (arith, ints, is.1, is.2)
 pub register-unsigned : (n : ℕ) → IsRegister (negsuc n) → ⊥
 register-unsigned n is = omega (arith, ints, is.2)
 
--- a text that is a token, in front of the tokens behind it
+-- a text that is a token, in front of the tokens behind it, gives the token and them
 token-front : (text rest : List ℕ) (kind : TokenKind) (place : ℕ) (others : List Token) → 0 < length text → piece_at (text ++ rest) ≡ Found kind (length text) → tokens_from rest 0 (place + length text) ≡ Ok others
     → tokens_from (text ++ rest) 0 place ≡ Ok (token_of kind place (length text) ∷ others)
 token-front text rest kind place others some found is = piece-tokens text rest kind place some found ∙ ap (with_first (token_of kind place (length text))) is
 
--- a register's name
+-- a register's name, in front of other tokens, is a token
 register-front : (n : ℕ) (rest : List ℕ) (place : ℕ) (others : List Token) → n < 32 → IsClosed rest → tokens_from rest 0 (place + length (114 ∷ decimal n)) ≡ Ok others
     → tokens_from (114 ∷ decimal n ++ rest) 0 place ≡ Ok (token_of Word place (length (114 ∷ decimal n)) ∷ others)
 register-front n rest place others low closed is =
     token-front (114 ∷ decimal n) rest Word place others (omega arith) (word-piece (114 ∷ decimal n) rest (decimal-of_word n (omega arith)) closed) is
 
--- a decimal number
+-- a decimal number, in front of other tokens, is a token
 decimal-front : (n : ℕ) (rest : List ℕ) (place : ℕ) (others : List Token) → n < 2 ^ 64 → IsClosed rest → tokens_from rest 0 (place + length (decimal n)) ≡ Ok others
     → tokens_from (decimal n ++ rest) 0 place ≡ Ok (token_of (Number n) place (length (decimal n)) ∷ others)
 decimal-front n rest place others low closed is = token-front (decimal n) rest (Number n) place others (decimal-some n) (decimal-piece n rest low closed) is
 
--- a negative number
+-- a negative number, in front of other tokens, gives the tokens of `-` and of the number
 negative-front : (n : ℕ) (rest : List ℕ) (place : ℕ) (others : List Token) → n < 2 ^ 64 → IsClosed rest → tokens_from rest 0 (place + length (45 ∷ decimal n)) ≡ Ok others
     → tokens_from (45 ∷ decimal n ++ rest) 0 place ≡ Ok (token_of Minus place 1 ∷ token_of (Number n) (place + 1) (length (decimal n)) ∷ others)
 negative-front n rest place others low closed is =
@@ -69,7 +69,7 @@ negative-front n rest place others low closed is =
     minus-tokens (decimal n ++ rest) place
     ∙ ap (with_first (token_of Minus place 1)) (decimal-front n rest (place + 1) others low closed (ap (tokens_from rest 0) (sym behind) ∙ is))
 
--- an operand
+-- an operand's text, in front of other tokens, gives the operand's tokens
 operand-front : (kind : Kind) (aa : Bool) (at : ℕ) (z : ℤ) (rest : List ℕ) (place : ℕ) (others : List Token) → IsWritable kind z → at < 2 ^ 63 → IsClosed rest → tokens_from rest 0 (place + length (operand_text kind aa at z)) ≡ Ok others
     → tokens_from (operand_text kind aa at z ++ rest) 0 place ≡ Ok (operand_tokens kind aa at z place ++ others)
 operand-front Register aa at (pos n) rest place others writable low closed is =
@@ -85,7 +85,7 @@ operand-front Target aa at z rest place others writable low closed is =
     token-front (short_hex (address_of_target aa at z)) rest (Number (address_of_target aa at z)) place others (omega arith) (short_hex-piece (address_of_target aa at z) rest (target-address-below aa at z writable low) closed) is
 operand-front Upper aa at z rest place others writable low closed is = absurd writable
 
--- behind an operand a mark stands or nothing
+-- what stands behind an operand ends its last token: a mark, or nothing
 behind-closed : (kind : Kind) (items : List Item) (aa : Bool) (at : ℕ) (zs : List ℤ) → is_separated (Operand kind ∷ items) ≡ true → IsClosed (operands_text items aa at zs)
 unfolding operands_text
 behind-closed kind [] aa at zs separated = refl
@@ -120,12 +120,12 @@ unfolding tokens_from
 behind-tokens [] tokens place is = is
 behind-tokens (byte ∷ bytes) tokens place is = blank-tokens (byte ∷ bytes) place ∙ is
 
--- the same behind a name
+-- the tokens of operands behind a name, from the blank before them on
 pub behind_name-tokens : (items : List Item) (aa : Bool) (at : ℕ) (zs : List ℤ) (place : ℕ) → is_separated items ≡ true → AreWritable (kinds_of items) zs → at < 2 ^ 63 → tokens_from (behind_name (operands_text items aa at zs)) 0 place ≡ Ok (operands_tokens items aa at zs (place + 1))
 behind_name-tokens items aa at zs place separated writable low =
     behind-tokens (operands_text items aa at zs) (operands_tokens items aa at zs (place + 1)) place (operands-tokens items aa at zs (place + 1) separated writable low)
 
--- how long an operand is
+-- an operand's text has at most 22 bytes
 operand-short : (kind : Kind) (aa : Bool) (at : ℕ) (z : ℤ) → IsWritable kind z → length (operand_text kind aa at z) ≤ 22
 operand-short Register aa at (pos n) writable = let below = register-below n writable in omega (arith, ap length (unsigned-text n), decimal-short n (omega arith))
 operand-short Register aa at (negsuc n) writable = absurd (register-unsigned n writable)
@@ -134,7 +134,7 @@ operand-short Value aa at (negsuc n) writable = omega (arith, decimal-short (suc
 operand-short Target aa at z writable = omega (arith, short_hex-short (address_of_target aa at z))
 operand-short Upper aa at z writable = absurd writable
 
--- how long operands are without the blank
+-- the text of operands, without the blank before them, has at most 22 bytes for each item
 texts-short : (items : List Item) (aa : Bool) (at : ℕ) (zs : List ℤ) → AreWritable (kinds_of items) zs → length (operands_text items aa at zs) ≤ 22 * length items
 unfolding operands_text
 texts-short [] aa at zs writable = omega arith
@@ -145,12 +145,12 @@ texts-short (Comma ∷ items) aa at zs writable = omega (arith, texts-short item
 texts-short (Open ∷ items) aa at zs writable = omega (arith, texts-short items aa at zs writable)
 texts-short (Close ∷ items) aa at zs writable = omega (arith, texts-short items aa at zs writable)
 
--- a blank is one byte more
+-- a text behind a blank has at most one byte more
 behind-short : (text : List ℕ) (most : ℕ) → length text ≤ most → length (behind_name text) ≤ most + 1
 behind-short [] most short = omega arith
 behind-short (byte ∷ bytes) most short = omega arith
 
--- how long operands are
+-- the text of operands behind a blank has at most 22 bytes for each item, and one
 pub operands-short : (items : List Item) (aa : Bool) (at : ℕ) (zs : List ℤ) → AreWritable (kinds_of items) zs → length (behind_name (operands_text items aa at zs)) ≤ 22 * length items + 1
 operands-short items aa at zs writable = behind-short (operands_text items aa at zs) (22 * length items) (texts-short items aa at zs writable)
 
@@ -158,7 +158,7 @@ operands-short items aa at zs writable = behind-short (operands_text items aa at
 unsigned-no_feed : (n : ℕ) → n < 2 ^ 64 → has_no_feed (signed_decimal (pos n)) ≡ true
 unsigned-no_feed n below = ap has_no_feed (unsigned-text n) ∙ of_word-no_feed (decimal n) (decimal-of_word n below)
 
--- nor has an operand
+-- the text of an operand has no line feed
 operand-no_feed : (kind : Kind) (aa : Bool) (at : ℕ) (z : ℤ) → IsWritable kind z → has_no_feed (operand_text kind aa at z) ≡ true
 operand-no_feed Register aa at (pos n) writable = let below = register-below n writable in unsigned-no_feed n (omega arith)
 operand-no_feed Register aa at (negsuc n) writable = absurd (register-unsigned n writable)
@@ -167,7 +167,7 @@ operand-no_feed Value aa at (negsuc n) writable = of_word-no_feed (decimal (suc 
 operand-no_feed Target aa at z writable = of_word-no_feed (short_hex (address_of_target aa at z)) (short_hex-of_word (address_of_target aa at z))
 operand-no_feed Upper aa at z writable = absurd writable
 
--- nor have operands without the blank
+-- the text of operands, without the blank before them, has no line feed
 texts-no_feed : (items : List Item) (aa : Bool) (at : ℕ) (zs : List ℤ) → AreWritable (kinds_of items) zs → has_no_feed (operands_text items aa at zs) ≡ true
 unfolding operands_text
 texts-no_feed [] aa at zs writable = refl
@@ -178,11 +178,11 @@ texts-no_feed (Comma ∷ items) aa at zs writable = texts-no_feed items aa at zs
 texts-no_feed (Open ∷ items) aa at zs writable = texts-no_feed items aa at zs writable
 texts-no_feed (Close ∷ items) aa at zs writable = texts-no_feed items aa at zs writable
 
--- a blank is none
+-- a text behind a blank has no line feed where the text has none
 behind-no_feed : (text : List ℕ) → has_no_feed text ≡ true → has_no_feed (behind_name text) ≡ true
 behind-no_feed [] all = refl
 behind-no_feed (byte ∷ bytes) all = all
 
--- they have no line feed
+-- the text of operands behind a blank has no line feed
 pub operands-no_feed : (items : List Item) (aa : Bool) (at : ℕ) (zs : List ℤ) → AreWritable (kinds_of items) zs → has_no_feed (behind_name (operands_text items aa at zs)) ≡ true
 operands-no_feed items aa at zs writable = behind-no_feed (operands_text items aa at zs) (texts-no_feed items aa at zs writable)

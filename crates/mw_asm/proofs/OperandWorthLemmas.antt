@@ -24,7 +24,7 @@ use Rattle.mw_asm.specs.Disassembly.{operand_text}
 use Rattle.mw_asm.proofs.ConversionLemmas.{InRange-fits}
 use Rattle.mw_asm.proofs.PrintedForms.{address_of_target, operand_base, operand_expression, operands_expressions, IsWritable, AreWritable, is_register_field, holds_kind, hold_kinds}
 
--- what a field holds fits it
+-- an operand in the range of a field is one that the field can hold
 held-fits : (f : Field) (z : ℤ) → is_readable f ≡ true → InRange f z → fits_field f z ≡ true
 held-fits f z readable within = (Decides-int_eq (operand_from f (bits_from f z)) z).1 (InRange-bits f z readable within)
 
@@ -37,7 +37,7 @@ address-below : (z : ℤ) (base : ℕ) → FitsSigned w64 z → base < 2 ^ 63 �
 address-below (pos n) base fits low = omega (arith, ints)
 address-below (negsuc n) base fits low = omega (arith, ints)
 
--- the bits of an address below what it counts from, less that
+-- the bits of an address that wrapped below 0, less what it counts from, are those of the displacement
 address-wrapped : (n base : ℕ) → n < 2 ^ 63 → base ≤ n → cast_unsigned w64 (pos (2 ^ 64 - suc (n - base)) -ℤ pos base) ≡ 2 ^ 64 - suc n
 address-wrapped n base fits low =
     let left : pos (2 ^ 64 - suc (n - base)) -ℤ pos base ≡ pos (2 ^ 64 - suc n) = omega (arith, ints) in
@@ -56,7 +56,7 @@ address-bits (negsuc n) base fits low = elim (cases_lt n base) [
       ap (λ y. cast_unsigned w64 (pos (cast_unsigned w64 y) -ℤ pos base)) sum ∙ address-wrapped n base fits.sfits above)
 ]
 
--- what a target counts from
+-- the address that a target counts from is below 2^63
 origin-below : (aa : Bool) (at : ℕ) → at < 2 ^ 63 → (if aa then 0 else at) < 2 ^ 63
 origin-below true at low = omega arith
 origin-below false at low = low
@@ -70,7 +70,7 @@ target-displacement aa at z fits low =
 pub target-address-below : (aa : Bool) (at : ℕ) (z : ℤ) → FitsSigned w64 z → at < 2 ^ 63 → address_of_target aa at z < 2 ^ 64
 target-address-below aa at z fits low = address-below z (if aa then 0 else at) fits (origin-below aa at low)
 
--- it is between the numbers that are taken
+-- the address of a target is between the numbers that a target may be
 target-between : (aa : Bool) (at : ℕ) (z : ℤ) → FitsSigned w64 z → at < 2 ^ 63 → is_between (neg_ℤ (pos (2 ^ 63))) (pos (2 ^ 64)) (pos (address_of_target aa at z)) ≡ true
 target-between aa at z fits low = lt-ltb _ _ (target-address-below aa at z fits low)
 
@@ -105,11 +105,11 @@ holds-readable Value f holds = holds
 holds-readable Target f holds = holds
 holds-readable Upper f holds = cc
 
--- an operand in front of others
+-- an operand that isn't refused, in front of others that aren't
 and-operands : (first : Result ℤ Refusal) (others : Result (List ℤ) Refusal) (z : ℤ) (zs : List ℤ) → first ≡ Ok z → others ≡ Ok zs → and_operands first others ≡ Ok (z ∷ zs)
 and-operands first others z zs is rest = ap (λ r. and_operands r others) is ∙ ap (and_operands (Ok z)) rest
 
--- what they are worth
+-- what printed operands are worth
 pub operands-worth : (items : List Item) (aa : Bool) (at : ℕ) (zs : List ℤ) (place : ℕ) (fields : List Field) (labels : List Placed) (line : List ℕ) → AreWritable (kinds_of items) zs → hold_kinds (kinds_of items) fields ≡ true → HasOperands fields zs → at < 2 ^ 63
     → operands_of labels at line aa (operands_expressions items aa at zs place) (kinds_of items) fields ≡ Ok zs
 unfolding operands_of operands_expressions

@@ -113,7 +113,7 @@ label-new old new at line label l name found is named there none updates =
     let once : is_twice line (Some l) old ≡ false = ap is_some absent in
     (ap (λ o. is_twice line o old) is ∙ once, λ q. with_label-added old new at line l absent update q ∙ ap (λ o. address_of (with_label line at o old) q) (sym is))
 
--- a line that isn't read
+-- a line that can't be read is refused by the first pass
 pub line-unread : (fault : LineFault) (pass : Pass) (labels : List Placed) (line : List ℕ) → IsReadAs {A = Line} (Err fault) (line_of line) → IsPlaced (Err fault) labels (first_line pass line)
 unfolding first_line
 line-unread (Refused refused) pass labels line is = ap (first_by pass line) is
@@ -130,24 +130,24 @@ twice pass line read is = rw is refl
 once : (pass : Pass) (line : List ℕ) (read : Line) → is_twice line read.label pass.known ≡ false → first_by pass line (Ok read) ≡ at_address (with_label line pass.at read.label pass.known) (behind_statement (with_label line pass.at read.label pass.known) pass.at line read.statement)
 once pass line read is = rw is refl
 
--- a line whose label isn't added
+-- a line whose label is there already is refused by the first pass
 pub line-unlabelled : (fault : LineFault) (old new labels : List Placed) (at : ℕ) (line : List ℕ) (read : Line) → line_of line ≡ Ok read → IsLabelled (Err fault) old new at line read.label → IsPlaced (Err fault) labels (first_line (record { at = at; known = old }) line)
 line-unlabelled (Refused refused) old new labels at line read is says =
     first_line-read (record { at = at; known = old }) line read is ∙ twice (record { at = at; known = old }) line read says.0 ∙ ap Err (sym says.1)
 line-unlabelled NoMemory old new labels at line read is says = tt
 
--- a line whose label is added
+-- the first pass over a line whose label is added goes on to its statement
 line-labelled : (old new : List Placed) (at : ℕ) (line : List ℕ) (read : Line) → line_of line ≡ Ok read → is_twice line read.label old ≡ false → AreSame new (with_label line at read.label old) → first_line (record { at = at; known = old }) line ≡ at_address (with_label line at read.label old) (behind_statement new at line read.statement)
 line-labelled old new at line read is new-label same =
     first_line-read (record { at = at; known = old }) line read is
     ∙ once (record { at = at; known = old }) line read new-label
     ∙ ap (at_address (with_label line at read.label old)) (sym (behind_statement-same new (with_label line at read.label old) at line read.statement same))
 
--- a line whose statement is refused
+-- the first pass refuses a line for its statement
 pub line-refused : (old new : List Placed) (at : ℕ) (line : List ℕ) (read : Line) (refused : Refusal) → line_of line ≡ Ok read → IsLabelled (Ok tt) old new at line read.label → behind_statement new at line read.statement ≡ Err refused → first_line (record { at = at; known = old }) line ≡ Err refused
 line-refused old new at line read refused is says behind = line-labelled old new at line read is says.0 says.1 ∙ ap (at_address (with_label line at read.label old)) behind
 
--- a line that is placed
+-- the first pass goes on behind a line whose statement is placed
 pub line-placed : (old new : List Placed) (at next : ℕ) (line : List ℕ) (read : Line) → line_of line ≡ Ok read → IsLabelled (Ok tt) old new at line read.label → behind_statement new at line read.statement ≡ Ok next → IsOkAnd (first_line (record { at = at; known = old }) line) (GoesOn next new)
 line-placed old new at next line read is says behind =
     let gives : first_line (record { at = at; known = old }) line ≡ Ok (record { at = next; known = with_label line at read.label old }) = line-labelled old new at line read is says.0 says.1 ∙ ap (at_address (with_label line at read.label old)) behind in
@@ -170,20 +170,20 @@ agree-next (Ok pass) (Ok other) labels at agree goes = record { pass = other; gi
 agree-next (Ok pass) (Err refused) labels at agree goes = absurd agree
 agree-next (Err refused) s labels at agree goes = absurd goes
 
--- what is left of the first pass
+-- what the first pass gives from a line on is what it gives of the whole source
 pub record Left (labels : List Placed) (number at : ℕ) (lines : List (List ℕ)) (whole : Result (List Placed) Place) : Type 0 where
   pub known : List Placed
   pub same : AreSame labels known
   pub gives : first_pass number (record { at = at; known = known }) lines ≡ whole
 
--- a line that is refused ends it
+-- a line that is refused ends the first pass
 pub pass-refused : (fault : LineFault) (labels new : List Placed) (number at : ℕ) (line : List ℕ) (lines : List (List ℕ)) (whole : Result (List Placed) Place) → IsPlaced (Err fault) new (first_line (record { at = at; known = labels }) line) → Left labels number at (line ∷ lines) whole → IfBad (fault_at number fault) (λ place. whole ≡ Err place)
 pass-refused (Refused refused) labels new number at line lines whole says left =
     let here = agree-refused _ _ refused (first_line-agree labels left.known at line left.same) says in
     sym left.gives ∙ ap (λ r. and_then number r (λ next. first_pass (number + 1) next lines)) here
 pass-refused NoMemory labels new number at line lines whole says left = tt
 
--- a line that is placed leaves the others
+-- behind a line that is placed the first pass goes over the others
 pub pass-next : (labels new : List Placed) (number at next : ℕ) (line : List ℕ) (lines : List (List ℕ)) (whole : Result (List Placed) Place) → IsPlaced (Ok next) new (first_line (record { at = at; known = labels }) line) → Left labels number at (line ∷ lines) whole → Left new (number + 1) next lines whole
 pass-next labels new number at next line lines whole says left =
     let here = agree-next _ _ new next (first_line-agree labels left.known at line left.same) says in
@@ -195,6 +195,6 @@ pass-next labels new number at next line lines whole says left =
           ∙ left.gives;
     }
 
--- no line is left
+-- where no line is left the first pass leaves the labels
 pub pass-end : (labels : List Placed) (number at : ℕ) (whole : Result (List Placed) Place) → Left labels number at [] whole → IsOkAnd whole (AreSame labels)
 pass-end labels number at whole left = subst (λ r. IsOkAnd r (AreSame labels)) left.gives left.same

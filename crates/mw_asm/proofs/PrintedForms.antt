@@ -20,7 +20,7 @@ use Rattle.mw_syntax.specs.declared.item.Item.TheVariants.{Operand, Comma, Open,
 use Rattle.mw_asm.specs.Assembled.{first_line, second_line}
 use Rattle.mw_asm.specs.Disassembly.{operand_text}
 
--- what stands before these bytes ends there: they don't begin with a byte that may stand in a word
+-- what stands before these bytes ends there: the bytes don't begin with one that may stand in a word
 abbrev pub IsClosed : List ℕ → Type 0
 IsClosed rest = is_of_word (slice_index rest 0) ≡ false
 
@@ -67,14 +67,14 @@ operands_tokens (Comma ∷ items) aa at zs place = token_of CommaToken place 1 �
 operands_tokens (Open ∷ items) aa at zs place = token_of OpenToken place 1 ∷ operands_tokens items aa at zs (place + 1)
 operands_tokens (Close ∷ items) aa at zs place = token_of CloseToken place 1 ∷ operands_tokens items aa at zs (place + 1)
 
--- their expressions
+-- the expressions of operands as an operand list writes them, from a place on
 unfoldable pub operands_expressions : List Item → Bool → ℕ → List ℤ → ℕ → List Expression
 operands_expressions [] aa at zs place = []
 operands_expressions (Operand kind ∷ items) aa at [] place = []
 operands_expressions (Operand kind ∷ items) aa at (z ∷ zs) place = operand_expression kind aa at z place ∷ operands_expressions items aa at zs (place + length (operand_text kind aa at z))
 operands_expressions (mark ∷ items) aa at zs place = operands_expressions items aa at zs (place + 1)
 
--- behind each operand stands a mark or nothing
+-- behind each operand of a list stands a mark or nothing
 abbrev pub is_separated : List Item → Bool
 is_separated [] = true
 is_separated (Operand kind ∷ []) = true

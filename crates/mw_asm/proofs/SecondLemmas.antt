@@ -150,7 +150,7 @@ taken bytes = Ok bytes
 ok-same : (x y : List ℕ) → taken x ≡ taken y → x ≡ y
 ok-same x y is = cc
 
--- the value of an `.org` that isn't refused
+-- the value of an `.org` that isn't refused is the next address, and lies in the image
 record OrgValue (at : ℕ) (found : Option ℤ) (next : ℕ) : Type 0 where
   pub value : ℤ
   pub is : found ≡ Some value
@@ -182,7 +182,7 @@ name-extends : (o p : Option ℕ) (value : ℤ) → ((address : ℕ) → o ≡ S
 name-extends None p value more is = cc
 name-extends (Some address) p value more is = ap (option_map pos) (more address refl) ∙ is
 
--- a value that is known stays
+-- a base that has a value by some labels has the same value by more labels
 base-extends : (known labels : List Placed) (at : ℕ) (line : List ℕ) (base : Base) (value : ℤ) → Extends known labels → base_value known at line base ≡ Some value → base_value labels at line base ≡ Some value
 base-extends known labels at line (Number n) value more is = is
 base-extends known labels at line (Negative n) value more is = is
@@ -222,7 +222,7 @@ line-inside labels number at line lines stands =
     (subst (λ a. IsInside labels a line n.first.read.statement) stands.at-is
     (inside-statement n.next.known labels stands.pass.at line n.first.read.statement n.next.at more n.first.behind))
 
--- lengths of bytes
+-- a value of data has as many bytes as its unit
 length-unit : (unit : DataUnit) (number : ℕ) → length (unit_bytes unit number) ≡ unit_size unit
 unfolding le_bytes
 length-unit Byte number = refl
@@ -301,13 +301,13 @@ pub second_line-read : (labels : List Placed) (at : ℕ) (line : List ℕ) (read
 unfolding second_line
 second_line-read labels at line read is = ap (second_by labels at line) is
 
--- a line that isn't read
+-- a line that can't be read is refused by the second pass
 pub second-unread : (fault : LineFault) (labels : List Placed) (at : ℕ) (old new line : List ℕ) → IsReadAs {A = Line} (Err fault) (line_of line) → IsAdded (Err fault) old new (second_line labels at line)
 unfolding second_line
 second-unread (Refused refused) labels at old new line is = ap (λ r. and_bytes (Ok old) (second_by labels at line r)) is
 second-unread NoMemory labels at old new line is = tt
 
--- bytes that were appended
+-- the bytes of a line that isn't refused stand behind the old ones
 record AddedBytes (old new : List ℕ) (r : Result (List ℕ) Refusal) : Type 0 where
   pub bytes : List ℕ
   pub gives : r ≡ Ok bytes
@@ -332,7 +332,7 @@ second-refused (Refused refused) labels number old new line lines whole says sam
     sym same ∙ ap (λ r. in_front old (and_then number r (λ bytes. in_front bytes (second_pass (number + 1) labels (length old + length bytes) lines)))) here
 second-refused NoMemory labels number old new line lines whole says same = tt
 
--- a line more
+-- one line more appends its bytes to the image
 pub second-more : (labels : List Placed) (number : ℕ) (old new line : List ℕ) (lines : List (List ℕ)) (whole : Result (List ℕ) Place) → IsAdded (Ok tt) old new (second_line labels (length old) line) → in_front old (second_pass number labels (length old) (line ∷ lines)) ≡ whole → in_front new (second_pass (number + 1) labels (length new) lines) ≡ whole
 second-more labels number old new line lines whole says same =
     let a = added-parts old new (second_line labels (length old) line) says in
@@ -360,6 +360,6 @@ stands-more labels number old new line lines stands says =
       leaves = n.others;
     }
 
--- no line is left
+-- where no line is left the image has the bytes of all lines
 pub second-end : (labels : List Placed) (number : ℕ) (old : List ℕ) (whole : Result (List ℕ) Place) → in_front old (second_pass number labels (length old) []) ≡ whole → whole ≡ Ok old
 second-end labels number old whole same = sym same ∙ ap Ok (append-nil old)

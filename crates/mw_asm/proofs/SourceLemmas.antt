@@ -21,7 +21,7 @@ first_pass-is : (number : ℕ) (pass : Pass) (lines : List (List ℕ)) → first
 first_pass-is number pass [] = refl
 first_pass-is number pass (line ∷ lines) = first_step number pass lines (first_line pass line) (λ next. first_pass-is (number + 1) next lines)
 
--- bytes in front of what is meant
+-- bytes in front of what the lines behind them mean, unless these are refused
 in_front-unless : (bytes : List ℕ) (refused : Option Place) (meant : List ℕ) → in_front bytes (unless_refused refused meant) ≡ unless_refused refused (bytes ++ meant)
 in_front-unless bytes None meant = refl
 in_front-unless bytes (Some place) meant = refl
@@ -37,12 +37,12 @@ second_pass-is : (number : ℕ) (labels : List Placed) (at : ℕ) (lines : List 
 second_pass-is number labels at [] = refl
 second_pass-is number labels at (line ∷ lines) = second_step number labels at lines (second_line labels at line) (λ next. second_pass-is (number + 1) labels next lines)
 
--- both passes, by what the first gives
+-- both passes over lines give what these mean, or the first refusal, by what the first pass gives
 both-is : (lines : List (List ℕ)) (refused : Option Place) (labels : List Placed) → both_passes lines (unless_refused refused labels) ≡ unless_refused (or_else refused (value_refusal 1 labels 0 lines)) (bytes_from labels 0 lines)
 both-is lines None labels = second_pass-is 1 labels 0 lines
 both-is lines (Some place) labels = refl
 
--- a source that is too long, or not
+-- a source is refused for its length, or gives what its passes give
 limited : (long : Bool) (place : Place) (said : Result (List ℕ) Place) (refused : Option Place) (meant : List ℕ) → said ≡ unless_refused refused meant → (if long then Err place else said) ≡ unless_refused (if long then Some place else refused) meant
 limited true place said refused meant e = refl
 limited false place said refused meant e = e
@@ -59,7 +59,7 @@ unless_refused-Ok : {A : Type 0} (refused : Option Place) (meant given : A) → 
 unless_refused-Ok None meant given e = (refl, cc)
 unless_refused-Ok (Some place) meant given e = cc
 
--- and a place is given where it is refused
+-- a place is given where something is refused
 unless_refused-Err : {A : Type 0} (refused : Option Place) (meant : A) (place : Place) → unless_refused refused meant ≡ Err place → refused ≡ Some place
 unless_refused-Err None meant place e = cc
 unless_refused-Err (Some other) meant place e = cc
@@ -74,7 +74,7 @@ fault-from : (source : List ℕ) (fault : AsmFault) → IfBad fault (λ place. a
 fault-from source (Bad line column what) is = unless_refused-Err (refusal_of source) (meaning_of source) _ (sym (assembled-is source) ∙ is)
 fault-from source NoMemory is = tt
 
--- and so is an answer with such a fault
+-- an answer with a fault at the place of both passes has the refusal that comes first
 pub refusal-from : {A : Type 0} (source : List ℕ) (said : Result A AsmFault) → IfErr said (λ fault. IfBad fault (λ place. assembled source ≡ Err place)) → IfErr said (λ fault. IfBad fault (λ place. refusal_of source ≡ Some place))
 refusal-from source (Ok bytes) is = tt
 refusal-from source (Err fault) is = fault-from source fault is

@@ -34,7 +34,7 @@ last-tokens : (text : List ℕ) (n place : ℕ) → 0 < length text → piece_at
 unfolding tokens_from
 last-tokens text n place some found = ap (λ (t : List ℕ). tokens_from t 0 place) (sym (append-nil text)) ∙ piece-tokens text [] (Number n) place some found
 
--- a name and a number
+-- the tokens of a name, a blank and a number
 name-number-tokens : (name text : List ℕ) (n : ℕ) → 0 < length name → is_word name ≡ true → 0 < length text → piece_at (text ++ []) ≡ Found (Number n) (length text) → tokens_of (name ++ 32 ∷ text) ≡ Ok (token_of Word 0 (length name) ∷ token_of (Number n) (length name + 1) (length text) ∷ [])
 name-number-tokens name text n named is some found =
     piece-tokens name (32 ∷ text) Word 0 named (word-piece name (32 ∷ text) is refl)
@@ -66,7 +66,7 @@ org-first at inside =
     ap (first_by start (codes ".org " ++ decimal at)) (org-line at inside)
     ∙ ap (at_address []) (org_by-inside at 1 (number_expression 6 at) inside)
 
--- and gives zeros up to there
+-- the second pass over an `.org` from the start gives zeros up to the address
 pub org-second : (at : ℕ) → at ≤ image_limit → second_line [] 0 (codes ".org " ++ decimal at) ≡ Ok (replicate at 0)
 unfolding second_line
 org-second at inside =
@@ -77,7 +77,7 @@ org-second at inside =
 org-length : (at : ℕ) → at ≤ image_limit → length (codes ".org " ++ decimal at) ≤ 25
 org-length at inside = omega (arith, decimal-short at (image_below at inside))
 
--- so it is a line that gives zeros from the start of an image
+-- an `.org` line gives zeros from the start of an image up to its address
 pub org-gives : (at : ℕ) → at ≤ image_limit → GivesBytes 0 (codes ".org " ++ decimal at) (replicate at 0)
 org-gives at inside = record {
   short = omega (arith, org-length at inside);
@@ -86,15 +86,15 @@ org-gives at inside = record {
   second = org-second at inside;
 }
 
--- a short line behind it makes no source that is too long
+-- a short line behind an `.org` makes no source that is too long
 org-source-short : (first second : List ℕ) → length first ≤ 25 → length second ≤ 1000 → length (source_of (first ∷ second ∷ [])) ≤ source_limit
 org-source-short first second few short = simp length-append (omega arith)
 
--- the line behind the zeros
+-- a line gives its bytes behind as many zeros as its address says
 gives-behind : (at : ℕ) (line bytes : List ℕ) → GivesBytes at line bytes → GivesBytes (0 + length (replicate {A = ℕ} at 0)) line bytes
 gives-behind at line bytes gives = subst (λ (place : ℕ). GivesBytes place line bytes) (omega (arith, length-replicate {A = ℕ} at 0)) gives
 
--- a line behind `.org`
+-- a line behind `.org` with its address assembles to the line's bytes
 pub gives-AssemblesTo : (at : ℕ) (line bytes : List ℕ) → at ≤ image_limit → GivesBytes at line bytes → AssemblesTo line at bytes
 gives-AssemblesTo at line bytes inside gives =
     ap assembled (append_assoc (codes ".org " ++ decimal at) (10 ∷ line) (10 ∷ []))
@@ -113,7 +113,7 @@ pub long-length : (word : ℕ) → length (word_bytes word) ≡ 4
 unfolding le_bytes
 long-length word = refl
 
--- four bytes that end in the image
+-- four bytes that end in the image can be placed
 bytes-inside : (at name : ℕ) → at + 4 ≤ image_limit → behind_bytes at name 4 ≡ Ok (at + 4)
 bytes-inside at name room = cond-false (nat_lt image_limit (at + 4)) (Err (refusal TooLong name)) (Ok (at + 4)) (le-ltb image_limit (at + 4) room)
 
@@ -126,7 +126,7 @@ long-value word e below =
     cond-true (fits_unit Long (pos word)) (Ok (word_bytes (word % 2 ^ 32))) (Err (refusal Range e.column)) (fits-long word below)
     ∙ ap (λ (n : ℕ). Ok (word_bytes n)) (mod-eq_of_lt below)
 
--- the first pass over it moves by four bytes, and the second gives the word's
+-- the first pass over a `.long` moves by four bytes, and the second gives its word's bytes
 long-first : (at word : ℕ) → word < 2 ^ 32 → at + 4 ≤ image_limit → first_line (record { at = at; known = [] }) (long_statement word) ≡ Ok (record { at = at + 4; known = [] })
 unfolding first_line
 long-first at word below room =
@@ -140,7 +140,7 @@ long-second at word below =
     ∙ ap (λ (r : Result (List ℕ) Refusal). and_bytes r (Ok [])) (long-value word (number_expression 7 word) below)
     ∙ ap (λ (bs : List ℕ). Ok bs) (append-nil (word_bytes word))
 
--- a word that is no instruction
+-- a `.long` of a word gives the word's bytes
 pub long-gives : (at word : ℕ) → word < 2 ^ 32 → at + 4 ≤ image_limit → GivesBytes at (long_statement word) (word_bytes word)
 long-gives at word below room = record {
   short = omega (arith, length-hex 8 word);

@@ -57,13 +57,13 @@ digit-no_x byte is = grind (arith, nat_tests)
 closed-no_x : (byte : ℕ) → is_of_word byte ≡ false → (byte == 120) ≡ false
 closed-no_x byte closed = grind (arith, nat_tests)
 
--- a word begins the same with more behind it
+-- a text that begins a word begins one with more behind it too
 begins-more : (text rest : List ℕ) → begins_word text ≡ true → begins_word (text ++ rest) ≡ true
 begins-more [] rest begins = cc
 begins-more (byte ∷ []) rest begins = grind (arith, nat_tests)
 begins-more (byte ∷ other ∷ text) rest begins = begins
 
--- what stands where a word begins
+-- a word stands where one begins
 piece-begun : (rest : List ℕ) → begins_word rest ≡ true → piece_at rest ≡ Found Word (prefix_len is_of_word rest)
 unfolding piece_at
 piece-begun rest begins =
@@ -71,7 +71,7 @@ piece-begun rest begins =
     let comment : (slice_index rest 0 == 35) ≡ false = grind (arith, nat_tests) in
     cond-false _ Blank _ blank ∙ cond-false _ Comment _ comment ∙ cond-true _ (Found Word (prefix_len is_of_word rest)) _ begins
 
--- a word
+-- a word in front of what ends it is a token
 pub word-piece : (text rest : List ℕ) → is_word text ≡ true → IsClosed rest → piece_at (text ++ rest) ≡ Found Word (length text)
 word-piece text rest is closed =
     let parts = and_parts (begins_word text) (list_all is_of_word text) is in
@@ -81,7 +81,7 @@ word-piece text rest is closed =
 number-found : (size value : ℕ) → value < 2 ^ 64 → number_piece size value ≡ Found (Number value) size
 number-found size value below = cond-true (nat_lt value (2 ^ 64)) (Found (Number value) size) Bad (lt-ltb value (2 ^ 64) below)
 
--- digits up to a byte that is none
+-- decimal digits up to a byte that is none are a number of 64 bits
 decimal_piece-found : (text rest : List ℕ) (n : ℕ) → list_all is_ascii_digit text ≡ true → is_ascii_digit (slice_index rest 0) ≡ false → digits_value 10 text ≡ n → n < 2 ^ 64 → decimal_piece (text ++ rest) ≡ Found (Number n) (length text)
 unfolding decimal_piece
 decimal_piece-found text rest n all fails value below =
@@ -90,7 +90,7 @@ decimal_piece-found text rest n all fails value below =
     ∙ ap (λ (number : ℕ). number_piece (length text) number) value
     ∙ number-found (length text) n below
 
--- the same behind `0x`
+-- hexadecimal digits behind `0x`, up to a byte that is none, are a number of 64 bits
 hexadecimal_piece-found : (text rest : List ℕ) (n : ℕ) → list_all is_ascii_hexdigit text ≡ true → is_ascii_hexdigit (slice_index rest 0) ≡ false → digits_value 16 text ≡ n → n < 2 ^ 64 → hexadecimal_piece (48 ∷ 120 ∷ (text ++ rest)) ≡ Found (Number n) (suc (suc (length text)))
 unfolding hexadecimal_piece
 hexadecimal_piece-found text rest n all fails value below =
@@ -114,7 +114,7 @@ second-no_x (byte ∷ other ∷ text) rest some all closed =
     let parts = and_parts (is_ascii_digit byte) (list_all is_ascii_digit (other ∷ text)) all in
     digit-no_x other (and_parts (is_ascii_digit other) (list_all is_ascii_digit text) parts.1).0
 
--- what stands where a digit does and no `x` behind it
+-- a decimal number stands where a digit does and no `x` behind it
 piece-digit : (rest : List ℕ) → is_ascii_digit (slice_index rest 0) ≡ true → (slice_index rest 1 == 120) ≡ false → piece_at rest ≡ decimal_piece rest
 unfolding piece_at
 piece-digit rest digit no_x =
@@ -131,11 +131,11 @@ digits-piece text rest n some all value below closed =
     piece-digit (text ++ rest) (first-passes is_ascii_digit text rest some all) (second-no_x text rest some all closed)
     ∙ decimal_piece-found text rest n all (closed-digit (slice_index rest 0) closed) value below
 
--- a decimal number
+-- a decimal number in front of what ends it is a token
 pub decimal-piece : (n : ℕ) (rest : List ℕ) → n < 2 ^ 64 → IsClosed rest → piece_at (decimal n ++ rest) ≡ Found (Number n) (length (decimal n))
 decimal-piece n rest below closed = digits-piece (decimal n) rest n (decimal-some n) (decimal-digits n below) (value-decimal n below) below closed
 
--- what stands where `0x` and a digit do
+-- a hexadecimal number stands where `0x` and a digit do
 piece-hexadecimal : (rest : List ℕ) → is_ascii_hexdigit (slice_index rest 0) ≡ true → piece_at (48 ∷ 120 ∷ rest) ≡ hexadecimal_piece (48 ∷ 120 ∷ rest)
 unfolding piece_at
 piece-hexadecimal rest is = cond-true (is_ascii_hexdigit (slice_index rest 0)) (hexadecimal_piece (48 ∷ 120 ∷ rest)) _ is
@@ -205,7 +205,7 @@ short_hex-of_word n = hex-of_word (digits_of 15 n) n
 byte-no_feed : (byte : ℕ) → is_of_word byte ≡ true → not (byte == 10) ≡ true
 byte-no_feed byte is = grind (arith, nat_tests)
 
--- such bytes are no line feeds
+-- bytes that may stand in a word are no line feeds
 pub of_word-no_feed : (text : List ℕ) → list_all is_of_word text ≡ true → has_no_feed text ≡ true
 of_word-no_feed text all = all-weaker is_of_word (λ byte. not (byte == 10)) text byte-no_feed all
 

@@ -11,7 +11,7 @@ use Rattle.mw_asm.proofs.GivenLinesLemmas.{AreGiven, source_of, given-assembled}
 use Rattle.mw_asm.proofs.SourceTextLemmas.{gives-AssemblesTo}
 use Rattle.mw_asm.proofs.EntryLemmas.{AreBehind, entries-give, entries-inside, entries-behind}
 
--- a byte is below 256, by its place
+-- bytes that are below 256 at every place are below 2^8
 pub bytes-small : (image : List ℕ) → ((place : ℕ) → get_or image place 0 < 256) → All (λ byte. byte < 2 ^ 8) image
 bytes-small image small place other within = subst (λ byte. byte < 2 ^ 8) (get_or_default image place 0 other within) (small place)
 
@@ -19,7 +19,7 @@ bytes-small image small place other within = subst (λ byte. byte < 2 ^ 8) (get_
 abbrev GivesCode : Entry → Type 0
 GivesCode entry = GivesBytes entry.at (statement_of entry) (encoded_entry entry)
 
--- each entry's statement assembles to that
+-- the statement of each entry of an image assembles at its address to what it stands for
 pub image-again : (image : List ℕ) → All (λ byte. byte < 2 ^ 8) image → length image ≤ image_limit → All AssemblesAgain (entries_of image)
 image-again image bytes inside place other within =
     let entry = get_or (entries_of image) place other in
@@ -33,7 +33,7 @@ entries-given at (entry ∷ entries) give behind = (
   entries-given (at + length (encoded_entry entry)) entries (λ k d lt. give (suc k) d (omega arith)) behind.1,
 )
 
--- a source of statements is their lines
+-- the source of an image's statements has a line for each entry
 source-statements : (entries : List Entry) → source_of (map statement_of entries) ≡ flat_map (λ entry. statement_of entry ++ 10 ∷ []) entries
 source-statements [] = refl
 source-statements (entry ∷ entries) =

@@ -32,12 +32,12 @@ source_limit = 4194304
 abbrev pub code_size : ℕ → ℕ
 code_size row = if has_prefix row then 8 else 4
 
--- the labels, those of a line behind those before it
+-- the labels that are known, with the label of a line behind them if it has one
 abbrev pub with_label : List ℕ → ℕ → Option Label → List Placed → List Placed
 with_label line at None known = known
 with_label line at (Some label) known = known ++ record { name = part_of line label.from label.to; address = at } ∷ []
 
--- the label is defined already
+-- the label of a line, if it has one, is defined already
 abbrev pub is_twice : List ℕ → Option Label → List Placed → Bool
 is_twice line None known = false
 is_twice line (Some label) known = is_some (address_of known (part_of line label.from label.to))
@@ -103,7 +103,7 @@ statement_bytes labels at line (Org name to) = Ok (replicate (option_map_or unsi
 statement_bytes labels at line (Data name unit values) = data_bytes labels at line unit values
 statement_bytes labels at line (Instruction name mnemonic operands) = instruction_bytes labels at line name mnemonic operands.items
 
--- the bytes of a line at an address
+-- the bytes of a line at an address, by what the line is, or its refusal
 abbrev pub second_by : List Placed → ℕ → List ℕ → Result Line Refusal → Result (List ℕ) Refusal
 second_by labels at line (Ok read) = statement_bytes labels at line read.statement
 second_by labels at line (Err refused) = Err refused
@@ -122,7 +122,7 @@ abbrev pub second_pass : ℕ → List Placed → ℕ → List (List ℕ) → Res
 second_pass number labels at [] = Ok []
 second_pass number labels at (line ∷ lines) = and_then number (second_line labels at line) (λ bytes. in_front bytes (second_pass (number + 1) labels (at + length bytes) lines))
 
--- both passes
+-- the bytes of the second pass over the lines of a source by the labels of the first pass, or the place that this refused
 abbrev pub both_passes : List (List ℕ) → Result (List Placed) Place → Result (List ℕ) Place
 both_passes lines (Ok labels) = second_pass 1 labels 0 lines
 both_passes lines (Err place) = Err place

@@ -59,6 +59,6 @@ IsInside labels at line (Org name to) = IfSome (value_of labels at line to) (λ 
 IsInside labels at line (Data name unit values) = ⊤
 IsInside labels at line (Instruction name mnemonic operands) = ⊤
 
--- the same of a line's statement
+-- the address of an `.org` in a line lies in the image
 abbrev pub LiesInside : List Placed → ℕ → List ℕ → Type 0
 LiesInside labels at line = IfOk (line_of line) (λ (read : Line). IsInside labels at line read.statement)

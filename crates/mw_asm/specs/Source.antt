@@ -29,7 +29,7 @@ abbrev pub bytes_from : List Placed → ℕ → List (List ℕ) → List ℕ
 bytes_from labels at [] = []
 bytes_from labels at (line ∷ lines) = bytes_at labels at line ++ bytes_from labels (at + length (bytes_at labels at line)) lines
 
--- what a source means: the image whose bytes these are
+-- what a source means: the image that consists of the bytes of its lines
 abbrev pub meaning_of : List ℕ → List ℕ
 meaning_of source = bytes_from (labels_of source) 0 (lines_of source)
 
@@ -48,7 +48,7 @@ abbrev pub value_refusal : ℕ → List Placed → ℕ → List (List ℕ) → O
 value_refusal number labels at [] = None
 value_refusal number labels at (line ∷ lines) = refused_or number (second_line labels at line) (λ bytes. value_refusal (number + 1) labels (at + length bytes) lines)
 
--- the one, or else the other
+-- the first of two refusals that may be there
 abbrev pub or_else : Option Place → Option Place → Option Place
 or_else (Some place) other = Some place
 or_else None other = other
@@ -57,7 +57,7 @@ or_else None other = other
 abbrev pub refusal_of : List ℕ → Option Place
 refusal_of source = if nat_lt source_limit (length source) then Some (place_past source) else or_else (first_refusal 1 start (lines_of source)) (value_refusal 1 (labels_of source) 0 (lines_of source))
 
--- what is meant, unless it is refused
+-- what is meant, unless there is a refusal
 abbrev pub unless_refused : {A : Type 0} → Option Place → A → Result A Place
 unless_refused None meant = Ok meant
 unless_refused (Some place) meant = Err place

@@ -49,7 +49,7 @@ base_value labels at line (Negative n) = Some (neg_ℤ (pos n))
 base_value labels at line (Name from to) = option_map pos (address_of labels (part_of line from to))
 base_value labels at line Here = Some (pos at)
 
--- with what stands behind it; sums are exact
+-- the value of an expression, from its base's value and the addend behind the base; sums are exact
 abbrev pub sum_value : Addend → ℤ → ℤ
 sum_value Nothing value = value
 sum_value (Plus n) value = value +ℤ pos n

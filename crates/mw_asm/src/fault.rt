@@ -14,7 +14,7 @@ pub struct Place {
 /// Why a source isn't assembled.
 #[derive(Clone, Copy, Debug, PartialEq, Eq)]
 pub enum AsmFault {
-    /// Its first refused place.
+    /// The source is refused at this place, its first one.
     Bad {
         /// The line, counted from 1.
         line: u32,
@@ -23,6 +23,6 @@ pub enum AsmFault {
         /// What is refused there.
         what: What,
     },
-    /// There was no memory for it.
+    /// Memory was wanting.
     NoMemory,
 }

@@ -102,7 +102,7 @@ const AT_ONCE: usize = 256;
 
 static ZEROS: [u8; AT_ONCE] = [0; AT_ONCE];
 
-/// So many zeros.
+/// A slice of so many zeros.
 fn zeros(count: usize) -> &'static [u8]
     requires { count ≤ AT_ONCE }
     ensures { result.now ≡ replicate count 0 }

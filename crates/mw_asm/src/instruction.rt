@@ -120,7 +120,7 @@ fn written_operands(
     Ok(operands)
 }
 
-/// These operands.
+/// A list of these operands.
 fn listed(operands: &[i64]) -> ArrayVec<i64, 6>
     requires { length operands.now ≤ 6 }
     ensures { result.items ≡ operands.now }

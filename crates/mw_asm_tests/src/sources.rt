@@ -14,23 +14,23 @@ static IMAGES: [Image; 22] = [
     Image(b"lis r3,65535", b"\xff\xff\x60\x3c"),
     Image(b"lis r3,-32768", b"\x00\x80\x60\x3c"),
     Image(b"mr r3,r4\nblr", b"\x78\x23\x83\x7c\x20\x00\x80\x4e"),
-    // Before their definition and behind it, and the statement's own address.
+    // Labels before their definition and behind it, and the statement's own address.
     Image(
         b"start: nop\n b end\n .long end, start, .\nend: b start",
         b"\x00\x00\x00\x60\x10\x00\x00\x48\x14\x00\x00\x00\x00\x00\x00\x00\x08\x00\x00\x00\xec\xff\xff\x4b",
     ),
     Image(b"nop\nx: # alone\n.byte x, x+1, 9-1 # three", b"\x00\x00\x00\x60\x04\x05\x08"),
-    // Targets wrap, with AA too.
+    // Addresses of targets wrap at 2^64, with AA too.
     Image(b"b 0xfffffffffffffffc", b"\xfc\xff\xff\x4b"),
     Image(b"b -4", b"\xfc\xff\xff\x4b"),
     Image(b"ba -4", b"\xfe\xff\xff\x4b"),
-    // Gaps are zeros.
+    // The gap that `.org` leaves has zeros.
     Image(b".byte 1\n.org 4\n.byte 2", b"\x01\x00\x00\x00\x02"),
     Image(b".org 3", b"\x00\x00\x00"),
     Image(b"x: .org x+2", b"\x00\x00"),
     // A displacement is a multiple of 4, and a target needn't be one.
     Image(b".byte 1\nb 1", b"\x01\x00\x00\x00\x48"),
-    // Both ends of each unit.
+    // The least and the greatest value of each unit of data.
     Image(b".byte -128,255", b"\x80\xff"),
     Image(b".long -0x80000000,0xffffffff", b"\x00\x00\x00\x80\xff\xff\xff\xff"),
     Image(b".quad -0x8000000000000000,0xffffffffffffffff", b"\x00\x00\x00\x00\x00\x00\x00\x80\xff\xff\xff\xff\xff\xff\xff\xff"),
@@ -85,7 +85,7 @@ static REFUSED: [Refused; 38] = [
     Refused(b".long -0x80000001", 1, 7, What::Range),
     Refused(b".quad -0x8000000000000000-1", 1, 7, What::Range),
     Refused(b".be64 0xffffffffffffffff+1", 1, 7, What::Range),
-    // The first one in a statement, in a line, in a pass.
+    // The first refused place in a statement, in a line, in a pass.
     Refused(b"addi 99,r0,nolabel", 1, 6, What::Range),
     Refused(b"addi r3,nolabel,99999", 1, 9, What::Label),
     Refused(b"x:\nx: li r3", 2, 9, What::Operand),
@@ -109,7 +109,7 @@ fn the_first_refused_place_is_told(rt: HostRuntime) {
     }
 }
 
-/// So many blanks.
+/// A line of so many blanks.
 fn blanks(alloc: Global, count: usize) -> Result<Vec<u8>, AllocError> {
     vec![in alloc; b' '; count]
 }

@@ -347,8 +347,8 @@ lwsync
 ptesync
 ";
 
-/// Their words, a prefix before its suffix: those of LLVM's assembler, but for ten mnemonics that it lacks
-/// and for mftb, whose own code it doesn't use; these are worked out from the manual.
+/// The statements' words, a prefix before its suffix: those of LLVM's assembler, but for ten mnemonics
+/// that it lacks and for mftb, whose own code it doesn't use; these are worked out from the manual.
 #[rattlefmt::skip]
 static WORDS: [u32; 354] = [
     0x39a7_4a26, 0x3ee4_a516, 0x33b4_b031, 0x35d5_9db2, 0x2269_9332, 0x1cb0_561a, 0x2ca4_bf62, 0x2995_cb19,

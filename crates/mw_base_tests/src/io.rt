@@ -27,7 +27,7 @@ fn a_file_is_read_back(rt: HostRuntime) -> Result<(), Fail> {
     Ok(())
 }
 
-// The call that fails, of an open and two reads, and what comes of it.
+// Which call of a host fails, of an open and two reads, and what comes of it.
 #[test]
 fn each_call_of_a_host_fails_in_turn(rt: HostRuntime) -> Result<(), Fail> {
     let alloc = rt.alloc();

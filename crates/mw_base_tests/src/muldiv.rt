@@ -2,7 +2,7 @@ ghost use Rattle.std.specs.Prelude.{◌≡◌, ◌+◌, ◌≤◌};
 
 use mw_muldiv::{Div, DivKind, DivOut, Mul, MulKind, Wide128};
 
-/// Ticks four times; whether there was no answer.
+/// Ticks a divider four times, and tells whether there was no answer.
 fn four(unit: &mut Div) -> bool
     requires { unit.old.ticks + 4 ≤ 65 }
     ensures { unit.new.ticks ≡ unit.old.ticks + 4 }
@@ -14,7 +14,7 @@ fn four(unit: &mut Div) -> bool
     first.is_none() && second.is_none() && third.is_none() && fourth.is_none()
 }
 
-/// Ticks sixteen times; whether there was no answer.
+/// Ticks a divider sixteen times, and tells whether there was no answer.
 fn sixteen(unit: &mut Div) -> bool
     requires { unit.old.ticks + 16 ≤ 65 }
     ensures { unit.new.ticks ≡ unit.old.ticks + 16 }
@@ -26,7 +26,7 @@ fn sixteen(unit: &mut Div) -> bool
     first && second && third && fourth
 }
 
-/// The answer of the 65th tick, if there was none before.
+/// The answer of a division's 65th tick, if there was none before.
 fn answer(kind: DivKind, dividend: Wide128, divisor: u64) -> Option<DivOut> {
     let mut unit = Div::start(kind, dividend, divisor);
     let first = sixteen(&mut unit);

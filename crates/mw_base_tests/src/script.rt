@@ -124,7 +124,7 @@ fn a_text_has_at_most_a_mebibyte(rt: HostRuntime) -> Result<(), Fail> {
     text.as_mut_slice()[1048575] = b'\n';
     assert!(rt; read_script(rt.alloc(), mebibyte(&rt, text.as_slice())).is_ok());
     assert!(rt; is_refused(rt.alloc(), text.as_slice(), 2, 1));
-    // it is refused before the line that isn't one
+    // a text that is too long is refused before its line that isn't one
     text.as_mut_slice()[0] = b'x';
     assert!(rt; is_refused(rt.alloc(), text.as_slice(), 2, 1));
     assert!(rt; is_refused(rt.alloc(), mebibyte(&rt, text.as_slice()), 1, 1));

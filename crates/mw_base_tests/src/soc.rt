@@ -106,7 +106,7 @@ fn external_follows_the_uarts_line(rt: HostRuntime) -> Result<(), Fail> {
     ask(&rt, &mut devices, 172, false);
     ask(&rt, &mut devices, 173, true);
     assert_eq!(rt; devices.output(), [0x41].as_slice());
-    // it is looked at, accepted and ended
+    // the interrupt of the UART's line is looked at, accepted and ended
     assert_eq!(rt; devices.load(0xC000_4000, 4), [255, 0, 0, 16, 0, 0, 0, 0]);
     ask(&rt, &mut devices, 173, true);
     assert_eq!(rt; devices.load(0xC000_4004, 4), [255, 0, 0, 16, 0, 0, 0, 0]);
@@ -114,7 +114,7 @@ fn external_follows_the_uarts_line(rt: HostRuntime) -> Result<(), Fail> {
     ask(&rt, &mut devices, 4_000_000, false);
     devices.store(0xC000_4004, &[255, 0, 0, 16]);
     ask(&rt, &mut devices, 4_000_000, true);
-    // the line goes off
+    // the UART's line goes off
     devices.store(0xC000_2020, &[0]);
     ask(&rt, &mut devices, 4_000_000, false);
     // the interprocessor interrupt needs no line

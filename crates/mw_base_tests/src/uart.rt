@@ -16,7 +16,7 @@ fn bring(rt: &impl Abort, uart: &mut Uart, cycle: u64)
     uart.advance(cycle);
 }
 
-/// A store, and then a load with what it gives.
+/// A store to an offset, and then a load of a width at an offset with what it gives.
 struct Access(u32, &'static [u8], u32, u8, [u8; 8]);
 
 #[rattlefmt::skip]

@@ -90,7 +90,7 @@ static ACCESSES: [Access; 126] = [
     Access::Load(0x1804, 4, ON, [0, 0, 0, 0xff, 0, 0, 0, 0]),
     Access::Load(0x1838, 4, ON, [0, 0, 0, 0xff, 0, 0, 0, 0]),
     Access::Load(0x183C, 4, ON, [0, 0, 0, 7, 0, 0, 0, 0]),
-    // Any other width or offset takes nothing ..
+    // A store of any other width or at any other offset takes nothing.
     Access::Store(0x0, &[1, 2]),
     Access::Store(0x0, &[1, 2, 3, 4, 5, 6, 7, 8]),
     Access::Store(0x4, &[1, 2]),
@@ -120,7 +120,7 @@ static ACCESSES: [Access; 126] = [
     Access::Store(0x1840, &[1, 2, 3, 4]),
     Access::Store(0x1FFC, &[1, 2, 3, 4]),
     Access::Store(0x1FFF, &[1]),
-    // .. and gives zeros.
+    // A load of any other width or at any other offset gives zeros.
     Access::Load(0x0, 2, ON, [0; 8]),
     Access::Load(0x0, 8, ON, [0; 8]),
     Access::Load(0x4, 2, ON, [0; 8]),
@@ -147,7 +147,7 @@ static ACCESSES: [Access; 126] = [
     Access::Load(0x1840, 4, ON, [0; 8]),
     Access::Load(0x1FFC, 4, ON, [0; 8]),
     Access::Load(0x1FFF, 1, ON, [0; 8]),
-    // Nothing of it has changed a register.
+    // No load or store of any other width or at any other offset has changed a register.
     Access::Load(0xC, 1, ON, [0xff, 0, 0, 0, 0, 0, 0, 0]),
     Access::Load(0x1800, 4, ON, [0, 0, 0, 9, 0, 0, 0, 0]),
     Access::Load(0x1804, 4, ON, [0, 0, 0, 0xff, 0, 0, 0, 0]),

@@ -11,18 +11,18 @@ use Rattle.mw_bits.specs.Fields.{field_of, sext_of}
 pub and-ones : (n k m : ℕ) → k ≤ 64 → 64 - k ≡ m → bit_and n (18446744073709551615 / 2 ^ k) ≡ n % 2 ^ m
 and-ones n k m within e = ap (bit_and n) (ones_shr 64 k within ∙ ap (λ i. 2 ^ i - 1) e) ∙ and_mask n m
 
--- the run of ones itself
+-- 64 ones that are shifted right leave the run of ones of this width
 pub ones-below : (w : ℕ) → w ≤ 64 → 18446744073709551615 / 2 ^ (64 - w) ≡ 2 ^ w - 1
 ones-below w within =
     let k : 64 - w ≤ 64 = omega arith in
     let e : 64 - (64 - w) ≡ w = omega arith in
     ones_shr 64 (64 - w) k ∙ ap (λ i. 2 ^ i - 1) e
 
--- half of that run
+-- half of a run of ones is the run that is one shorter
 pub half-ones : (w : ℕ) → 1 ≤ w → (2 ^ w - 1) / 2 ≡ 2 ^ (w - 1) - 1
 half-ones w wide = ones_shr w 1 wide
 
--- the ones above it
+-- the ones above a run of ones that ends at the last bit
 pub not-ones : (w : ℕ) → w ≤ 64 → 18446744073709551615 - (2 ^ w - 1) ≡ (2 ^ (64 - w) - 1) * 2 ^ w
 not-ones w within =
     let e : 64 - w + w ≡ 64 = omega arith in
@@ -31,15 +31,15 @@ not-ones w within =
     let p : 0 < 2 ^ w = pow_pos w in
     omega arith
 
--- a number below half of the width's numbers has no sign
+-- a number below half of the width's numbers is extended with zeros
 no_sign : (low half top : ℕ) → low ≤ half - 1 → 0 < half → cond (nat_lt low half) low (low + top) ≡ low
 no_sign low half top h p = grind (arith, nat_tests)
 
--- from the half on it has one
+-- a number from half of the width's numbers on is extended with ones
 with_sign : (low half top : ℕ) → half - 1 < low → cond (nat_lt low half) low (low + top) ≡ low + top
 with_sign low half top h = grind (arith, nat_tests)
 
--- with a sign or without one it has 64 bits
+-- a number that is extended with its sign or with zeros has 64 bits
 extended-lt : (low half whole : ℕ) → low < whole → whole ≤ 2 ^ 64 → cond (nat_lt low half) low (low + (2 ^ 64 - whole)) < 2 ^ 64
 extended-lt low half whole below within = grind (arith, nat_tests)
 

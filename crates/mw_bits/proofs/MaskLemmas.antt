@@ -129,7 +129,7 @@ mask-lt-round mb me behind within =
     let e : mask_of mb me ≡ (2 ^ (64 - mb) - 1) + (2 ^ 64 - 2 ^ (63 - me)) = mask_of-round mb me behind in
     subst (λ (i : ℕ). i < 2 ^ 64) (sym e) (omega (arith, m, t, p))
 
--- either way
+-- a mask has 64 bits, whether it goes round the end or not
 mask-lt-by : (mb me : ℕ) → me ≤ 63 → (me < mb) ⊎ (mb ≤ me) → mask_of mb me < 2 ^ 64
 mask-lt-by mb me within (inl behind) = mask-lt-round mb me behind within
 mask-lt-by mb me within (inr ordered) = mask-lt-ordered mb me ordered

@@ -2,14 +2,14 @@
 /// radix page table entry).
 #[derive(Clone, Copy, Debug, PartialEq, Eq)]
 pub struct Rights {
-    /// Whether only privileged states may use it.
+    /// Whether only privileged states may use the page.
     pub privileged: bool,
-    /// Whether it may be loaded from.
+    /// Whether the page may be loaded from.
     pub read: bool,
-    /// Whether it may be loaded from and stored into.
+    /// Whether the page may be loaded from and stored into.
     pub write: bool,
-    /// Whether instructions may be fetched from it.
+    /// Whether instructions may be fetched from the page.
     pub execute: bool,
-    /// Whether its change bit is set.
+    /// Whether the page's change bit is set.
     pub changed: bool,
 }

@@ -1,13 +1,13 @@
 /// The kept translations that an invalidation reaches (Book III, tlbie).
 #[derive(Clone, Copy, Debug, PartialEq, Eq)]
 pub enum Scope {
-    /// None of them.
+    /// No translation is reached.
     Nothing,
-    /// All of them.
+    /// All translations are reached.
     All,
-    /// Those of one process.
+    /// The translations of one process are reached.
     Pid(u32),
-    /// Those of one process for some pages that follow one another.
+    /// The translations of one process for some pages that follow one another are reached.
     Region {
         /// The process.
         pid: u32,

@@ -54,12 +54,12 @@ runs-image image script n events (Ran cycle) last runs = record {
   lively = subst (IsLively events) runs.stops runs.lively;
 }
 
--- what isn't built is met where it is met with these
+-- a run of a boot meets the instruction that isn't built where one of its image and script does
 pub unbuilt-image : (image : List ℕ) (script : List (ℕ × ℕ)) (n : ℕ) → first_unbuilt (record { image = image; script = script }) n ≡ unbuilt_with image script n
 unfolding first_unbuilt start
 unbuilt-image image script n = refl
 
--- and a refusal has the cause that it has with them
+-- a refused run of a boot has the cause that one of its image and script has
 pub cause-image : (image : List ℕ) (script : List (ℕ × ℕ)) (n : ℕ) (fault : RunFault) → HasCause (record { image = image; script = script }) n fault → HasImageCause image script n fault
 cause-image image script n ImageTooLarge cause = cause
 cause-image image script n (Unbuilt cycle cia) (fits, met) = (fits, sym (unbuilt-image image script n) ∙ met)

@@ -42,14 +42,14 @@ range-rises n k h =
     let next = get_or-range_with_len 0 n (k + 1) 0 (omega arith) in
     omega arith
 
--- and are below its end
+-- the numbers of a range from 0 are below its end
 range-below : (n : ℕ) → All (λ cycle. cycle < n) (range_with_len 0 n)
 range-below n k d h =
     let length_is = length-range_with_len 0 n in
     let here = get_or-range_with_len 0 n k d (omega arith) in
     omega arith
 
--- it has each number below its end
+-- a range from 0 has each number below its end
 range-contains : (n i : ℕ) → i < n → Contains (range_with_len 0 n) i
 range-contains n i h =
     let length_is = length-range_with_len 0 n in
@@ -65,7 +65,7 @@ pub record IsMade (boot : Boot) (n : ℕ) (events : List Event) (cycle : ℕ) (s
   pub ahead : unbuilt_from (n - cycle) cycle state ≡ first_unbuilt boot n
   pub stands : cycle_of state.devices ≤ cycle
 
--- at the start
+-- at the start a run has come nowhere, and no event has happened
 pub made-start : (boot : Boot) (n : ℕ) → IsMade boot n [] 0 (start boot)
 unfolding first_unbuilt start
 made-start boot n =
@@ -78,7 +78,7 @@ made-start boot n =
       stands = omega arith;
     }
 
--- one cycle further
+-- a run comes one cycle further by an event
 pub made-more : (boot : Boot) (n : ℕ) (events : List Event) (cycle : ℕ) (event : Event) (state after : State) → cycle < n → IsMade boot n events cycle state → Turns (Some event) (brought cycle state) after → IsMade boot n (events ++ event ∷ []) (cycle + 1) after
 made-more boot n events cycle event state after below m t =
     let left : n - cycle ≡ suc (n - (cycle + 1)) = omega arith in
@@ -116,12 +116,12 @@ unfolding start
 seen-start boot room whole ram devices w r d =
     ap seen w ∙ ap₂ (λ (bytes : List ℕ) (housed : Housed). state_of start_regs bytes housed.devices) r d
 
--- at the start, from its parts
+-- how far a run has come at the start, from the parts of its state
 pub made-init : (boot : Boot) (n : ℕ) (events : List Event) (state : State) → events ≡ [] → state ≡ start boot → IsMade boot n events 0 state
 made-init boot n events state e s =
     subst (λ (es : List Event). IsMade boot n es 0 state) (sym e) (subst (IsMade boot n [] 0) (sym s) (made-start boot n))
 
--- one cycle further, from its parts
+-- how far a run has come one cycle further, from the parts of its state
 pub made-next : (boot : Boot) (n : ℕ) (events more : List Event) (cycle : ℕ) (event : Event) (state after : State) (devices : DeviceData) → cycle < n → IsMade boot n events cycle state → devices ≡ devices_at state.devices cycle → Turns (Some event) (state_of state.regs state.ram devices) after → more ≡ events ++ event ∷ [] → IsMade boot n more (cycle + 1) after
 made-next boot n events more cycle event state after devices below m d t e =
     let u = subst (λ (v : DeviceData). Turns (Some event) (state_of state.regs state.ram v) after) d t in
@@ -139,7 +139,7 @@ made-unbuilt boot n events cycle state after devices below fits m d t =
           ∙ ap (λ (s : State). Some (cycle, s.regs.cia)) (sym stays.1),
     )
 
--- the end, from its parts
+-- the end of a run, from the parts of its state
 pub made-end : (boot : Boot) (n : ℕ) (events all : List Event) (cycle : ℕ) (end : End) (state last : State) → IsMade boot n events cycle state → cycle ≡ n → length boot.image ≤ 16777216 → all ≡ events → end ≡ Ran n → last ≡ brought n state → Runs boot n all end last
 made-end boot n events all cycle end state last m at fits a e b =
     subst (λ (es : List Event). Runs boot n es end last) (sym a) (subst (λ (x : End). Runs boot n events x last) (sym e)

@@ -15,12 +15,12 @@ use Rattle.mw_isa.proofs.StepLaws.{acted-interrupted, acted-retired, acted-trapp
 use Rattle.mw_step.specs.Prepared.{event_at}
 use Rattle.mw_board.specs.Plain.{Turns}
 
--- whether the instruction traps or retires, it is at the devices' cycle
+-- the event of an instruction that retires or traps has the devices' cycle
 cycle-at : (trap : Option Raised) (state : State) → cycle_of_event (event_at trap state) ≡ cycle_of state.devices
 cycle-at None state = refl
 cycle-at (Some raised) state = refl
 
--- and makes of the state what its step does
+-- the event of an instruction makes of the state what the instruction's step does
 acted-at : (trap : Option Raised) (state : State) → builds state ≡ true → (step state).trap ≡ trap → acted (event_at trap state) state ≡ Some (step state).after
 acted-at None state built is = acted-retired (cycle_of state.devices) state built is
 acted-at (Some raised) state built is = acted-trapped (cycle_of state.devices) raised state built is
@@ -41,7 +41,7 @@ turns-carried state after event calm built e a = record {
   leaves = ap (λ (choice : Option Vector). passed_by choice state) calm ∙ sym a;
 }
 
--- and so is the interrupt that is chosen
+-- the interrupt that is chosen, where it is taken, is the machine's
 pub turns-interrupted : (state after : State) (event : Event) (vector : Vector) → chosen state ≡ Some vector → event ≡ Irq (cycle_of state.devices) state.regs.cia vector → after ≡ interrupted vector state → Turns (Some event) state after
 turns-interrupted state after event vector chooses e a = record {
   can = ap (λ (choice : Option Vector). is_some choice || builds state) chooses;

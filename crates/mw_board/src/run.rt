@@ -5,7 +5,7 @@ use mw_isa::{End, Events, State};
 pub struct Run {
     /// What happened, in order: one event for each cycle.
     pub events: Events,
-    /// How it ended.
+    /// How the run ended.
     pub end: End,
     /// The state at the end, its devices brought to the end's cycle.
     pub state: State,
@@ -20,9 +20,9 @@ pub enum RunFault {
     NoMemory,
     /// An instruction that isn't built was reached: one that would set IR or DR of MSR.
     Unbuilt {
-        /// The cycle at which it is the next one, counted from 0.
+        /// The cycle at which that instruction is the next one, counted from 0.
         cycle: u64,
-        /// Its effective address.
+        /// The effective address of that instruction.
         cia: u64,
     },
 }

@@ -12,21 +12,21 @@ const UART: u64 = 0xC000_2000;
 /// Where the system controller stands.
 const SYSTEM: u64 = 0xC000_0000;
 
-/// Each one begins with ld r3,256(0).
+/// The programs, each of which begins with ld r3,256(0).
 #[rattlefmt::skip]
 static PROGRAMS: [Program; 20] = [
     // addi r4,0,65; stb r4,0(r3) in cycle 2; b .: the byte is sent in cycle 162
     Program(&[0xe860_0100, 0x3880_0041, 0x9883_0000, 0x4800_0000], UART, 161, 0, b""),
     Program(&[0xe860_0100, 0x3880_0041, 0x9883_0000, 0x4800_0000], UART, 162, 0, b"A"),
     Program(&[0xe860_0100, 0x3880_0041, 0x9883_0000, 0x4800_0000], UART, 40000, 0, b"A"),
-    // and addi r5,0,1; sth r5,24(r3); addi r4,0,66; stb r4,0(r3); b .: the divider moves the later byte alone
+    // addi r4,0,65; stb r4,0(r3); addi r5,0,1; sth r5,24(r3); addi r4,0,66; stb r4,0(r3); b .: the divider moves the later byte alone
     Program(&[0xe860_0100, 0x3880_0041, 0x9883_0000, 0x38a0_0001, 0xb0a3_0018, 0x3880_0042, 0x9883_0000, 0x4800_0000], UART, 481, 0, b"A"),
     Program(&[0xe860_0100, 0x3880_0041, 0x9883_0000, 0x38a0_0001, 0xb0a3_0018, 0x3880_0042, 0x9883_0000, 0x4800_0000], UART, 482, 0, b"AB"),
     // addi r4,0,97; sixteen times stb r4,0(r3); addi r4,0,98; stb r4,0(r3); b .: the last byte finds no place
     Program(&[0xe860_0100, 0x3880_0061, 0x9883_0000, 0x9883_0000, 0x9883_0000, 0x9883_0000, 0x9883_0000, 0x9883_0000, 0x9883_0000, 0x9883_0000, 0x9883_0000, 0x9883_0000, 0x9883_0000, 0x9883_0000, 0x9883_0000, 0x9883_0000, 0x9883_0000, 0x9883_0000, 0x3880_0062, 0x9883_0000, 0x4800_0000], UART, 3000, 0, b"aaaaaaaaaaaaaaaa"),
     // lbz r6,16(r3): both queues are empty
     Program(&[0xe860_0100, 0x88c3_0010], UART, 2, 3, b""),
-    // addi r4,0,65; stb r4,0(r3); ld r6,16(r3): one isn't
+    // addi r4,0,65; stb r4,0(r3); ld r6,16(r3): the send queue isn't empty
     Program(&[0xe860_0100, 0x3880_0041, 0x9883_0000, 0xe8c3_0010], UART, 4, 1, b""),
     // addi r4,0,65; stb r4,1(r3); b .: the first byte of the slot isn't covered
     Program(&[0xe860_0100, 0x3880_0041, 0x9883_0001, 0x4800_0000], UART, 400, 0, b""),

@@ -21,7 +21,7 @@ fn outcome(word: u32, suffix: u32, read: [u64; 2], cia: u64) -> Option<Outcome> 
     outcome_in(0, word, suffix, read, cia)
 }
 
-/// The same under MSR.
+/// What a word at an address, with this suffix where it is a prefix, comes to under MSR.
 fn outcome_in(msr: u64, word: u32, suffix: u32, [a, b]: [u64; 2], cia: u64) -> Option<Outcome> {
     let operands = Operands {
         a,

@@ -20,10 +20,10 @@ const PRIVILEGED: Given = Err(SprRefusal::Privileged);
 /// A read of a number that is illegal.
 const ILLEGAL: Given = Err(SprRefusal::Illegal);
 
-/// A write that is refused so.
+/// A write that is refused as privileged.
 const NO_PRIVILEGE: Option<SprRefusal> = Some(SprRefusal::Privileged);
 
-/// A write that is refused so.
+/// A write that is refused as illegal.
 const NO_NUMBER: Option<SprRefusal> = Some(SprRefusal::Illegal);
 
 /// Each number that stands for a register, and its neighbours.
@@ -98,7 +98,7 @@ static NUMBERS: [Number; 72] = [
     Number(1000, NOTHING, None, ILLEGAL, NO_NUMBER),
     Number(1022, NOTHING, None, PRIVILEGED, NO_PRIVILEGE),
     Number(1023, Ok(Some(0)), None, PRIVILEGED, NO_PRIVILEGE),
-    // no instruction has these
+    // numbers of more than 10 bits, which no instruction has
     Number(1024, NOTHING, None, ILLEGAL, NO_NUMBER),
     Number(1025, NOTHING, None, ILLEGAL, NO_NUMBER),
     Number(1040, NOTHING, None, PRIVILEGED, NO_PRIVILEGE),
@@ -108,33 +108,33 @@ static NUMBERS: [Number; 72] = [
 /// A number, the value that is written to it, and what is then read under another.
 struct Written(u16, u64, u16, u64);
 
-/// What writes leave.
+/// What writes to registers leave.
 #[rattlefmt::skip]
 static WRITTEN: [Written; 34] = [
-    // the five bits of XER, and all others
+    // XER takes its five bits, and no others
     Written(1, 0xFFFF_FFFF_FFFF_FFFF, 1, 0xE00C_0000),
     Written(1, 0xFFFF_FFFF_1FF3_FFFF, 1, 0),
     Written(1, 0x4008_0000, 1, 0x4008_0000),
     // a register of 32 bits takes the low word
     Written(18, 0xFFFF_FFFF_8765_4321, 18, 0x8765_4321),
     Written(48, 0xFFFF_FFFF_8765_4321, 48, 0x8765_4321),
-    // the decrementer, with its sign
+    // the decrementer takes the low word, which is read with its sign
     Written(22, 0x1234_5678_8000_0000, 22, 0xFFFF_FFFF_8000_0000),
     Written(22, 0xFFFF_FFFF_7FFF_FFFF, 22, 0x7FFF_FFFF),
     Written(22, 0xFFFF_FFFF, 22, 0xFFFF_FFFF_FFFF_FFFF),
     Written(22, 3, 22, 3),
-    // the halves of the time base
+    // the halves of the time base take nothing
     Written(284, 0x1234, 268, 5),
     Written(285, 0x1234, 268, 5),
     Written(285, 0x1234, 269, 0),
-    // what is only read
+    // registers that are only read take nothing
     Written(259, 0x1234, 275, 0x8000_0000_0000_0275),
     Written(259, 0x1234, 259, 0x8000_0000_0000_0275),
     Written(268, 0x1234, 268, 5),
     Written(269, 0x1234, 269, 0),
     Written(287, 0x1234, 287, 0x0063_0101),
     Written(1023, 0x1234, 1023, 0),
-    // what is whole
+    // registers of 64 bits take the whole value
     Written(8, 0x9234_5678_9ABC_DEF0, 8, 0x9234_5678_9ABC_DEF0),
     Written(9, 0x9234_5678_9ABC_DEF1, 9, 0x9234_5678_9ABC_DEF1),
     Written(19, 0x9234_5678_9ABC_DEF2, 19, 0x9234_5678_9ABC_DEF2),
@@ -179,7 +179,7 @@ fn filled() -> Regs {
     }
 }
 
-/// They in problem state: PR is bit 49 of MSR.
+/// The registers of `filled` in problem state: PR is bit 49 of MSR.
 fn in_problem_state() -> Regs {
     let regs = filled();
     Regs {
@@ -227,7 +227,7 @@ fn the_time_base_has_two_halves(rt: HostRuntime) -> Result<(), Fail> {
     let regs = filled();
     assert!(rt; read(&regs, &devices, 268) == Ok(Some(0x1_0000_0005)));
     assert!(rt; read(&regs, &devices, 269) == Ok(Some(1)));
-    // the decrementer went round once, and five on
+    // the decrementer went round once, and five cycles on
     assert!(rt; read(&regs, &devices, 22) == Ok(Some(0x7FFF_FFFA)));
     Ok(())
 }

@@ -154,15 +154,15 @@ struct Program(&'static [u32], u64, u32, u64, u64, u64);
 static PROGRAMS: [Program; 16] = [
     // addi r5,0,7; addi r3,0,4096; ldarx r4,0,r3; std r3,8(r3); stdcx. r5,0,r3: the plain store leaves the reservation
     Program(&[0x38a0_0007, 0x3860_1000, 0x7c80_18a8, 0xf863_0008, 0x7ca0_19ad], 5, 0x2000_0000, 0, 4096, 7),
-    // the same, and addi r8,0,9; stdcx. r8,0,r3: the first store-conditional ended it
+    // ldarx r4,0,r3; std r3,8(r3); stdcx. r5,0,r3; addi r8,0,9; stdcx. r8,0,r3: the first store-conditional ended the reservation
     Program(&[0x38a0_0007, 0x3860_1000, 0x7c80_18a8, 0xf863_0008, 0x7ca0_19ad, 0x3900_0009, 0x7d00_19ad], 7, 0, 0, 4096, 7),
-    // the plain store of it
+    // ldarx r4,0,r3; std r3,8(r3); stdcx. r5,0,r3: the doubleword that the plain store wrote
     Program(&[0x38a0_0007, 0x3860_1000, 0x7c80_18a8, 0xf863_0008, 0x7ca0_19ad], 5, 0x2000_0000, 0, 4104, 4096),
     // ldarx, and stbcx. of the same block, 63 bytes on
     Program(&[0x38a0_0007, 0x3860_1000, 0x7c80_18a8, 0x3860_103f, 0x7ca0_1d6d], 5, 0x2000_0000, 0, 4152, 0x0700_0000_0000_0000),
     // ldarx, and stbcx. of the next block: nothing is stored, and the reservation ends
     Program(&[0x38a0_0007, 0x3860_1000, 0x7c80_18a8, 0x3860_1040, 0x7ca0_1d6d], 5, 0, 0, 4160, 0),
-    // the same, and addi r3,0,4096; stdcx. r5,0,r3, which finds no reservation
+    // ldarx, and stbcx. of the next block, and addi r3,0,4096; stdcx. r5,0,r3, which finds no reservation
     Program(&[0x38a0_0007, 0x3860_1000, 0x7c80_18a8, 0x3860_1040, 0x7ca0_1d6d, 0x3860_1000, 0x7ca0_19ad], 7, 0, 0, 4096, 0),
     // addi r5,0,-2; addi r3,0,520; lwarx r6,0,r3; stwcx. r5,0,r3
     Program(&[0x38a0_fffe, 0x3860_0208, 0x7cc0_1828, 0x7ca0_192d], 4, 0x2000_0000, 0x9493_9291, 520, 0x9897_9695_ffff_fffe),
@@ -170,7 +170,7 @@ static PROGRAMS: [Program; 16] = [
     Program(&[0x38a0_fffe, 0x3860_0208, 0x7cc0_18e8, 0x7ca0_1dad], 4, 0x2000_0000, 0x9291, 520, 0x9897_9695_9493_fffe),
     // addi r0,0,64; lwz r6,520(0): RA=0 stands for zero
     Program(&[0x3800_0040, 0x80c0_0208], 2, 0, 0x9493_9291, 520, DATA),
-    // addi r0,0,64; addi r3,0,520; ldx r6,0,r3: the same
+    // addi r0,0,64; addi r3,0,520; ldx r6,0,r3: RA=0 stands for zero
     Program(&[0x3800_0040, 0x3860_0208, 0x7cc0_182a], 3, 0, DATA, 520, DATA),
     // addi r0,0,8; addi r3,0,512; lwzx r6,r3,r0: RB=0 is register 0
     Program(&[0x3800_0008, 0x3860_0200, 0x7cc3_002e], 3, 0, 0x9493_9291, 520, DATA),
@@ -207,11 +207,11 @@ fn programs_of_accesses(rt: HostRuntime) -> Result<(), Fail> {
 /// What an access comes to.
 #[derive(Clone, Copy, Debug, PartialEq, Eq)]
 enum Fate {
-    /// It retires.
+    /// The access retires.
     Retires,
-    /// It raises an alignment interrupt.
+    /// The access raises an alignment interrupt.
     Traps,
-    /// There is no run.
+    /// There is no run of the image.
     Refused,
 }
 
@@ -229,7 +229,7 @@ static ACCESSES: [Access; 32] = [
     Access(&[0x3c60_0100, 0x80c3_0000], Fate::Retires),
     Access(&[0x3c60_0100, 0xe8c3_fffc], Fate::Traps),
     Access(&[0x3c60_0100, 0xe8c3_fff8], Fate::Retires),
-    // behind it lwarx r6,0,r3, dcbz 0,r3, dcbst 0,r3
+    // behind the end of RAM lwarx r6,0,r3, dcbz 0,r3, dcbst 0,r3
     Access(&[0x3c60_0100, 0x7cc0_1828], Fate::Traps),
     Access(&[0x3c60_0100, 0x7c00_1fec], Fate::Traps),
     Access(&[0x3c60_0100, 0x7c00_186c], Fate::Retires),
@@ -239,17 +239,17 @@ static ACCESSES: [Access; 32] = [
     Access(&[0xe860_0108, 0x7c00_18ac], Fate::Retires),
     Access(&[0xe860_0108, 0x7c00_1a2c], Fate::Retires),
     Access(&[0xe860_0108, 0x7c00_1fec], Fate::Traps),
-    // lwz at 0, stw at 0, lwz at 4096 and at 8188, all in it; ld at -8
+    // in the controller's pages lwz at 0, stw at 0, lwz at 4096 and at 8188; ld at -8, just before them
     Access(&[0xe860_0108, 0x80c3_0000], Fate::Retires),
     Access(&[0xe860_0108, 0x90c3_0000], Fate::Retires),
     Access(&[0xe860_0108, 0x80c3_1000], Fate::Retires),
     Access(&[0xe860_0108, 0x80c3_1ffc], Fate::Retires),
     Access(&[0xe860_0108, 0xe8c3_fff8], Fate::Retires),
-    // lwz at -4, at -1, which isn't aligned, and at 8192, just outside
+    // lwz around the controller's pages: at -4, at -1, which isn't aligned, and at 8192
     Access(&[0xe860_0108, 0x80c3_fffc], Fate::Retires),
     Access(&[0xe860_0108, 0x80c3_ffff], Fate::Traps),
     Access(&[0xe860_0108, 0x80c3_2000], Fate::Retires),
-    // lwz at 2, stw at 2, lhz at 1 and ld at 4, which aren't aligned; lbz at 1
+    // in the controller's pages lwz at 2, stw at 2, lhz at 1 and ld at 4, which aren't aligned; lbz at 1
     Access(&[0xe860_0108, 0x80c3_0002], Fate::Traps),
     Access(&[0xe860_0108, 0x90c3_0002], Fate::Traps),
     Access(&[0xe860_0108, 0xa0c3_0001], Fate::Traps),

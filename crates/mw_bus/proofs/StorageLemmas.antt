@@ -25,13 +25,13 @@ pub length-bytes_at : (ram : List ℕ) (at n : ℕ) → length (bytes_at ram at 
 unfolding bytes_at
 length-bytes_at ram at n = length-map-range_with_len (λ (i : ℕ). byte_at ram ((at + i) % 2 ^ 60)) 0 n
 
--- its byte at a place
+-- the byte of a read at a place
 pub get_or-bytes_at : (ram : List ℕ) (at n i d : ℕ) → i < n → get_or (bytes_at ram at n) i d ≡ byte_at ram ((at + i) % 2 ^ 60)
 unfolding bytes_at
 get_or-bytes_at ram at n i d below =
     get_or-map-range_with_len (λ (k : ℕ). byte_at ram ((at + k) % 2 ^ 60)) 0 n i i d below (omega arith)
 
--- one byte more
+-- a read of one byte more has the byte behind the others
 pub bytes_at-more : (ram : List ℕ) (at n : ℕ) → bytes_at ram at (n + 1) ≡ bytes_at ram at n ++ byte_at ram ((at + n) % 2 ^ 60) ∷ []
 unfolding bytes_at
 bytes_at-more ram at n =
@@ -59,11 +59,11 @@ bytes_at-append ram at m (suc n) =
     ∙ append_assoc (bytes_at ram at m) (bytes_at ram ((at + m) % 2 ^ 60) n) (last ∷ [])
     ∙ ap (λ (xs : List ℕ). bytes_at ram at m ++ xs) back
 
--- where RAM is, its byte
+-- the byte at an address in RAM is RAM's
 pub byte_at_inside : (ram : List ℕ) (q : ℕ) → q < 16777216 → byte_at ram q ≡ slice_index ram q
 byte_at_inside ram q inside = grind (arith, nat_tests)
 
--- a read inside RAM
+-- a read that lies in RAM gives a stretch of RAM
 pub bytes_at_inside : (ram : List ℕ) (at n : ℕ) → length ram ≡ 16777216 → at + n ≤ 16777216 → bytes_at ram at n ≡ take n (drop at ram)
 bytes_at_inside ram at n whole inside =
     let long : length (take n (drop at ram)) ≡ n = simp (length-take, length-drop) (omega arith) in
@@ -89,7 +89,7 @@ length-byte_put ram at byte =
       | false ↦ refl
     ]
 
--- and each other byte
+-- a store of a byte keeps each other byte
 pub byte_at-byte_put_other : (ram : List ℕ) (at byte q : ℕ) → at ≢ q → byte_at (byte_put ram at byte) q ≡ byte_at ram q
 byte_at-byte_put_other ram at byte q apart =
     let other : q ≢ at = λ e. apart (sym e) in
@@ -213,11 +213,11 @@ pub word_at-number_of : (big : Bool) (ram : List ℕ) (at : ℕ) → at + 3 < 2 
 unfolding word_at
 word_at-number_of big ram at straight = ap (number_of big 4) (four_at-bytes_at ram at straight)
 
--- its front is the operand
+-- the front of a padded operand is the operand
 pub take-padded : (xs : List ℕ) (n : ℕ) → length xs ≡ n → take n (padded xs) ≡ xs
 take-padded xs n len = take_at xs (replicate (8 - length xs) 0) n len
 
--- the operand with one byte more
+-- a padded operand with one byte more
 pub padded-more : (xs : List ℕ) (i y : ℕ) → length xs ≡ i → i < 8 → set (padded xs) i y ≡ padded (xs ++ y ∷ [])
 padded-more xs i y len below =
     let room : 8 - length xs ≡ suc (8 - (length xs + 1)) = omega arith in
@@ -226,7 +226,7 @@ padded-more xs i y len below =
     ∙ sym (append_assoc xs (y ∷ []) (replicate (8 - (length xs + 1)) 0))
     ∙ ap (λ (k : ℕ). (xs ++ y ∷ []) ++ replicate (8 - k) 0) (sym (length_push xs y))
 
--- a read with one byte more
+-- a padded read with one byte more
 pub padded-bytes_at : (ram : List ℕ) (at i byte : ℕ) (bytes : List ℕ) → bytes ≡ padded (bytes_at ram at i) → i < 8 → byte ≡ byte_at ram ((at + i) % 2 ^ 60) → set bytes i byte ≡ padded (bytes_at ram at (i + 1))
 padded-bytes_at ram at i byte bytes was below e =
     ap₂ (λ (xs : List ℕ) (y : ℕ). set xs i y) was e

@@ -13,7 +13,7 @@ use Rattle.mw_cli.proofs.FileLemmas.{Files}
 pub at_some : {A : Type 0} (o : Option A) (P : A → Type 0) (x : A) → o ≡ Some x → IsSomeAnd o P → P x
 at_some o P x e h = subst (λ (v : Option _). IsSomeAnd v P) e h
 
--- words that are an order aren't none
+-- words that are an order aren't without one
 pub some_or_none : (o : Option Order) (order : Order) → o ≡ Some order → o ≡ None → ⊥
 some_or_none o order some none = cc
 
@@ -33,7 +33,7 @@ refused-shows call status order told asks h =
     let (line, comes, only) = at_some (order_of call.words) _ order asks.0 h in
     inl (sym (ap status_by (comes-told call.host order told (Refuses status line) asks.1 comes)))
 
--- so does each status
+-- each status that says why it comes shows what the order comes to
 shows : (call : Call) (status : Status) (order : Order) (told : List ℕ → Option (List ℕ)) → Asks call order told → Says call status → Shows (verdict_with told order) status
 shows call Done order told asks says =
     let (text, (output, comes, is), took) = at_some (order_of call.words) (Written call.host call.out) order asks.0 says.0 in

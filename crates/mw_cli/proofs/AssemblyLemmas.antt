@@ -8,12 +8,12 @@ use Rattle.mw_asm.specs.declared.fault.Place.{Place}
 use Rattle.mw_asm.specs.Assembled.{assembled, both_passes, first_pass, lines_of, last_of, place_past}
 use Rattle.mw_cli.proofs.FileLemmas.{Files}
 
--- a source past the limit is refused there
+-- a source past the limit is refused at the first byte past it
 long-refused : (source : List ℕ) → 4194304 < length source → assembled source ≡ Err (place_past source)
 unfolding assembled
 long-refused source long = ap (λ (b : Bool). cond b (Err (place_past source)) (both_passes (lines_of source) (first_pass 1 (record { at = 0; known = [] }) (lines_of source)))) (lt-ltb 4194304 (length source) long)
 
--- and its front at the same place
+-- the front of a source up to one byte past the limit has the same first byte past the limit
 same-place : (source : List ℕ) → place_past (take 4194305 source) ≡ place_past source
 same-place source = ap (λ (front : List ℕ). record { line = length (lines_of front); column = length (last_of (lines_of front)) + 1; what = TooLong }) (take-take 4194304 4194305 source (omega arith))
 
@@ -24,7 +24,7 @@ front-gives source = elim (cases_lt 4194304 (length source)) [
   | inl long ↦ long-refused (take 4194305 source) (omega (arith, length-take 4194305 source)) ∙ ap Err (same-place source) ∙ sym (long-refused source long)
 ]
 
--- so what the front gives, the file gives
+-- what the front of a source's file gives, the file gives
 pub source-gives : (files : Files) (name bytes : List ℕ) (r : Result (List ℕ) Place) → IfSome files (λ told. bytes ≡ take (4194304 + 1) (content_of told name)) → assembled bytes ≡ r → (source : List ℕ) × IfSome files (λ told. source ≡ content_of told name) × (assembled source ≡ r)
 source-gives None name bytes r front e = (bytes, tt, e)
 source-gives (Some told) name bytes r front e = (content_of told name, refl, sym (front-gives (content_of told name)) ∙ ap assembled (sym front) ∙ e)

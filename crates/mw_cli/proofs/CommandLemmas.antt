@@ -11,7 +11,7 @@ use Rattle.mw_cli.specs.Command.{order_of, asked_of, number_up_to}
 written : (n : ℕ) (word : List ℕ) → bytes_eq (decimal n) word ≡ true → decimal n ≡ word
 written n word e = (bytes_eq-Decides (decimal n) word).0 e
 
--- both parts of a test that holds
+-- both parts of a test hold where it holds
 first_holds : (a b : Bool) → (a && b) ≡ true → a ≡ true
 first_holds true b e = refl
 first_holds false b e = e
@@ -40,11 +40,11 @@ number-is most n word fits e small =
     ap (λ (k : ℕ). cond (bytes_eq (decimal k) word && nat_le k most) (Some k) None) v
     ∙ ap₂ (λ (a : Bool) (b : Bool). cond (a && b) (Some n) None) e (le-leb n most small)
 
--- a word that isn't read
+-- a word that can't be read as a number is no number of the grammar
 pub number-unread : {E : Type 0} (most : ℕ) (word : List ℕ) (r : Result ℕ E) (e : E) → most < 2 ^ 64 → ParsesUnsigned 64 10 word r → r ≡ Err e → number_up_to most word ≡ None
 number-unread most word r e fits p is = none_written most word (λ n small w. let q : r ≡ Ok n = parse-decimal 64 n word r (omega arith) (omega arith) (sym w) p in cc)
 
--- a word that is read and isn't written so
+-- a word that is read as a number, but isn't its decimal digits, is no number of the grammar
 pub number-other : {E : Type 0} (most n : ℕ) (word : List ℕ) (r : Result ℕ E) → most < 2 ^ 64 → ParsesUnsigned 64 10 word r → r ≡ Ok n → bytes_eq (decimal n) word ≡ false → number_up_to most word ≡ None
 number-other most n word r fits p is e = none_written most word (λ m small w.
     let q : r ≡ Ok m = parse-decimal 64 m word r (omega arith) (omega arith) (sym w) p in
@@ -52,7 +52,7 @@ number-other most n word r fits p is e = none_written most word (λ m small w.
     let t : bytes_eq (decimal n) word ≡ true = (bytes_eq-Decides (decimal n) word).1 (ap decimal same ∙ w) in
     false≢true (sym e ∙ t))
 
--- a number that is too great
+-- a word of a number that is too great is no number of the grammar
 pub number-great : {E : Type 0} (most n : ℕ) (word : List ℕ) (r : Result ℕ E) → most < 2 ^ 64 → ParsesUnsigned 64 10 word r → r ≡ Ok n → most < n → number_up_to most word ≡ None
 number-great most n word r fits p is great = none_written most word (λ m small w.
     let q : r ≡ Ok m = parse-decimal 64 m word r (omega arith) (omega arith) (sym w) p in

@@ -48,7 +48,7 @@ not-long host name told files short (image, is, long) =
 pub never-too-large : (call : Call) (order : RunOrder) (told : List ℕ → Option (List ℕ)) → Asks call (Run order) told → length (content_of told order.image) ≤ 16777216 → Answers call ImageTooLarge → ⊥
 never-too-large call order told asks short a = not-long call.host order.image told asks.1 short (too-large call order asks.0 a)
 
--- nor where that of a disassembly does
+-- ImageTooLarge isn't answered where the file of a disassembly fits RAM
 pub never-too-large-disassembly : (call : Call) (image : List ℕ) (told : List ℕ → Option (List ℕ)) → Asks call (Disassemble image) told → length (content_of told image) ≤ 16777216 → Answers call ImageTooLarge → ⊥
 never-too-large-disassembly call image told asks short a = not-long call.host image told asks.1 short (too-large-disassembly call image asks.0 a)
 
@@ -56,7 +56,7 @@ never-too-large-disassembly call image told asks short a = not-long call.host im
 pub never-bad-run : (call : Call) (order : RunOrder) → order_of call.words ≡ Some (Run order) → order.script ≡ None → Answers call BadInput → ⊥
 never-bad-run call order asked none a = let (name, place, named, bad) = bad-run call order asked a in cc
 
--- nor where its script is read
+-- BadInput isn't answered where the script of a run is read
 pub never-bad-script : (call : Call) (order : RunOrder) (told : List ℕ → Option (List ℕ)) (name : List ℕ) (script : List (ℕ × ℕ)) → Asks call (Run order) told → order.script ≡ Some name → script_of (content_of told name) ≡ Ok script → Answers call BadInput → ⊥
 never-bad-script call order told name script asks named ok a =
     let (other, place, same, (text, content, bad)) = bad-run call order asks.0 a in
@@ -65,11 +65,11 @@ never-bad-script call order told name script asks named ok a =
     let read : script_of text ≡ Ok script = ap script_of is ∙ ok in
     cc
 
--- or where they ask for a disassembly
+-- BadInput isn't answered where the words ask for a disassembly
 pub never-bad-disassembly : (call : Call) (image : List ℕ) → order_of call.words ≡ Some (Disassemble image) → Answers call BadInput → ⊥
 never-bad-disassembly call image asked a = bad-disassembly call image asked a
 
--- nor where the source has bytes
+-- BadInput isn't answered where the source has bytes
 pub never-bad-input : (call : Call) (name : List ℕ) (told : List ℕ → Option (List ℕ)) (bytes : List ℕ) → Asks call (Assemble name) told → assembled (content_of told name) ≡ Ok bytes → Answers call BadInput → ⊥
 never-bad-input call name told bytes asks ok a =
     let (source, place, content, bad) = bad-input call name asks.0 a in

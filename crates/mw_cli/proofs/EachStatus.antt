@@ -27,11 +27,11 @@ use Rattle.mw_cli.proofs.AnswerLemmas.{at_some}
 pub usage : (call : Call) → Answers call Usage → order_of call.words ≡ None
 usage call a = a.says.0
 
--- there is some order, so there isn't none
+-- words that are some order are an order
 no_order : (o : Option Order) (P : Order → Type 0) → o ≡ None → IsSomeAnd o P → ⊥
 no_order o P e h = subst (λ (v : Option Order). IsSomeAnd v P) e h
 
--- and where they are none Usage comes, or memory is wanting and out took nothing
+-- where the words are no order Usage comes, or memory is wanting and out took nothing
 pub always-usage : (call : Call) (status : Status) → order_of call.words ≡ None → Answers call status → (status ≡ Usage) ⊎ ((status ≡ NoMemory) × TookNothing call.out)
 always-usage call Done none a = absurd (no_order _ _ none a.says.0)
 always-usage call Usage none a = inl refl
@@ -48,16 +48,16 @@ always-usage call Unbuilt none a = absurd (no_order _ _ none a.says)
 pub read-fault : (call : Call) → Answers call ReadFault → Rose call.host.before.faults call.host.after.faults
 read-fault call a = a.faults.reads.rose refl
 
--- what some order has, it has with what follows from it
+-- what holds of some order gives what follows from it
 missing : (o : Option Order) (P Q : Order → Type 0) → IsSomeAnd o P → ((order : Order) → P order → Q order) → IsSomeAnd o Q
 missing None P Q h f = h
 missing (Some order) P Q h f = f order h
 
--- and over a sound host a file that the words name isn't there
+-- with ReadFault over a sound host a file that the words name isn't there
 pub absent : (call : Call) → Answers call ReadFault → IsTrue call.host.before.is_sound → OnOrder call (λ order. (k : ℕ) × (name : List ℕ) × (option_map (λ file. file.name) (slice_get (files_of order) k) ≡ Some name) × IsSomeAnd call.host.before.files (λ told. told name ≡ None))
 absent call a sound = missing (order_of call.words) _ _ a.says (λ order (name, (k, named, opened, gone), only). (k, name, named, gone sound))
 
--- with WriteFault out's did
+-- with WriteFault out's count of faults rose
 pub write-fault : (call : Call) → Answers call WriteFault → Rose call.out.before.faults call.out.after.faults
 write-fault call a = a.faults.writes.rose refl
 
@@ -76,7 +76,7 @@ always-read-fault call BadInput greater a = absurd (risen _ _ _ greater a.faults
 always-read-fault call NoMemory greater a = absurd (risen _ _ _ greater a.faults.reads (λ (e : NoMemory ≡ ReadFault). cc))
 always-read-fault call Unbuilt greater a = absurd (risen _ _ _ greater a.faults.reads (λ (e : Unbuilt ≡ ReadFault). cc))
 
--- where out's is, WriteFault
+-- where out's count of faults is greater than before, WriteFault comes
 pub always-write-fault : (call : Call) (status : Status) → call.out.before.faults < call.out.after.faults → Answers call status → status ≡ WriteFault
 always-write-fault call Done greater a = absurd (risen _ _ _ greater a.faults.writes (λ (e : Done ≡ WriteFault). cc))
 always-write-fault call Usage greater a = absurd (risen _ _ _ greater a.faults.writes (λ (e : Usage ≡ WriteFault). cc))
@@ -94,7 +94,7 @@ first-is : (files : Files) (first : Wanted) (others : List Wanted) (contents : L
 first-is None first others contents are = tt
 first-is (Some told) first others contents are = ap first_of are
 
--- the text of a run's script is that of the second
+-- the text of a run's script is that of the second file
 text-is : (files : Files) (first : Wanted) (named : Option (List ℕ)) (contents : List (List ℕ)) → IfSome files (λ told. contents ≡ contents_of told (first ∷ script_files named)) → IsText files named (text_by named contents)
 text-is files first None contents are = refl
 text-is None first (Some name) contents are = tt
@@ -137,14 +137,14 @@ run-too-large host order line (contents, are, comes) = elim (long-or-so (first_o
   ]
 ]
 
--- and so is that of a disassembly
+-- with ImageTooLarge the image of a disassembly is longer than RAM
 listing-too-large : (host : Change HostState) (name line : List ℕ) → ComesTo host (Disassemble name) (Refuses ImageTooLarge line) → IsTooLong host name
 listing-too-large host name line (contents, are, comes) = elim (long-or-so (first_of contents) _ ImageTooLarge line comes) [
   | inl (long, e) ↦ (first_of contents, first-is host.before.files (record { name = name; most = ram_size }) [] contents are, long)
   | inr (short, e) ↦ cc
 ]
 
--- what a source is refused with
+-- a source is refused as BadInput alone, with the place that the assembler refuses
 source-refused : (name : List ℕ) (r : Result (List ℕ) Place) (status : Status) (line : List ℕ) → unless_bad name r ≡ Refuses status line → (status ≡ BadInput) × ((place : Place) × (r ≡ Err place) × (line ≡ bad_line name place.line place.column))
 source-refused name (Ok bytes) status line e = cc
 source-refused name (Err place) status line e = let same : status ≡ BadInput = cc in (same, (place, refl, cc))
@@ -174,7 +174,7 @@ run-unbuilt host order line (contents, are, comes) = elim (long-or-so (first_of 
   ]
 ]
 
--- a source or a disassembly reaches none
+-- a source or a disassembly is never refused as Unbuilt
 source-unbuilt : (host : Change HostState) (name line : List ℕ) → ComesTo host (Assemble name) (Refuses Unbuilt line) → ⊥
 source-unbuilt host name line (contents, are, comes) = let (other, rest) = source-refused name _ Unbuilt line comes in cc
 
@@ -187,7 +187,7 @@ source-bad host name line (contents, are, comes) =
     let (same, (place, e, told)) = source-refused name _ BadInput line comes in
     (first_of contents, place, first-is host.before.files (record { name = name; most = 4194304 }) [] contents are, e, told)
 
--- and for a run its script is, whose image fits
+-- with BadInput the script of a run is refused, and its image fits
 abbrev IsBadRun : Change HostState → RunOrder → List ℕ → Type 0
 IsBadRun host order line = (image : List ℕ) × IsContent host order.image image × (length image ≤ 16777216) × ((name : List ℕ) × (place : ScriptPlace) × (order.script ≡ Some name) × IsBadScript host name place.line place.column × (line ≡ bad_line name place.line place.column))
 
@@ -205,7 +205,7 @@ run-bad host order line (contents, are, comes) = elim (long-or-so (first_of cont
   ]
 ]
 
--- a disassembly isn't refused so
+-- a disassembly is never refused as BadInput
 
 listing-bad : (host : Change HostState) (name line : List ℕ) → ComesTo host (Disassemble name) (Refuses BadInput line) → ⊥
 listing-bad host name line (contents, are, comes) = elim (long-or-so (first_of contents) _ BadInput line comes) [ inl (long, e) ↦ cc | inr (short, e) ↦ cc ]
@@ -225,7 +225,7 @@ run-written order image text output e = elim (cases_lt 16777216 (length image)) 
   | inr short ↦ (short, script-written (unwrap_or order.script []) order image (script_of text) output (sym (fits image _ short) ∙ e))
 ]
 
--- so it is a text of a run of the image's content and the script's
+-- the text of a run that isn't refused is of a run of the image's content and the script's
 run-gives-text : (host : Change HostState) (order : RunOrder) (output : Output) (text : List ℕ) → ComesTo host (Run order) (Writes output) → IsOutput output text → (image : List ℕ) × (script : List (ℕ × ℕ)) × IsStart host order image script × SpellsRun (run_by order image script) text
 run-gives-text host order output text (contents, are, gives) is =
     let (short, (script, read, same)) = run-written order (first_of contents) (text_by order.script contents) output gives in (
@@ -248,7 +248,7 @@ done-run call order asked a =
     let (image, script, start, spells) = run-gives-text call.host order output text gives is in
     (image, script, text, start, spells, took)
 
--- with WriteFault it took a front of such a text
+-- with WriteFault out took a front of a text of a run of the image and the script
 pub cut-run : (call : Call) (order : RunOrder) → order_of call.words ≡ Some (Run order) → Answers call WriteFault → (image : List ℕ) × (script : List (ℕ × ℕ)) × (text : List ℕ) × IsStart call.host order image script × SpellsRun (run_by order image script) text × TookFront call.out text
 cut-run call order asked a =
     let (text, (output, gives, is), took) = at_some (order_of call.words) (CutShort call.host call.out) (Run order) asked a.says.0 in
@@ -297,7 +297,7 @@ bad-run call order asked a =
 pub bad-disassembly : (call : Call) (image : List ℕ) → order_of call.words ≡ Some (Disassemble image) → Answers call BadInput → ⊥
 bad-disassembly call image asked a = let (line, is) = comes call BadInput (Disassemble image) asked a.says in listing-bad call.host image line is
 
--- ---- and always there, but for a call of the host that failed and for want of memory
+-- ---- ImageTooLarge, Unbuilt and BadInput always come with their causes, but for a call of the host that failed and for want of memory
 
 pub always-too-large : (call : Call) (status : Status) (order : RunOrder) (told : List ℕ → Option (List ℕ)) → Asks call (Run order) told → 16777216 < length (content_of told order.image) → Answers call status → (status ≡ ImageTooLarge) ⊎ IsUnanswered call status
 always-too-large call status order told asks long a = a.exactly (Run order) told ImageTooLarge too_large_line asks (too_long (content_of told order.image) _ long)
@@ -310,7 +310,7 @@ abbrev pub script_text : (List ℕ → Option (List ℕ)) → Option (List ℕ) 
 script_text told None = []
 script_text told (Some name) = content_of told name
 
--- what the order's files have gives that text
+-- the text of a run's script, by what the order's files have, is the text in these files
 text-told : (told : List ℕ → Option (List ℕ)) (first : Wanted) (named : Option (List ℕ)) → text_by named (contents_of told (first ∷ script_files named)) ≡ script_text told named
 text-told told first None = refl
 text-told told first (Some name) = refl
@@ -332,7 +332,7 @@ always-bad-script call status order told name place asks short named bad a = a.e
 pub always-bad-input : (call : Call) (status : Status) (source : List ℕ) (told : List ℕ → Option (List ℕ)) (place : Place) → Asks call (Assemble source) told → assembled (content_of told source) ≡ Err place → Answers call status → (status ≡ BadInput) ⊎ IsUnanswered call status
 always-bad-input call status source told place asks bad a = a.exactly (Assemble source) told BadInput (bad_line source place.line place.column) asks (ap (unless_bad source) bad)
 
--- ---- what is left is done where no call failed, unless memory is wanting
+-- ---- an order that isn't refused is done where no call failed, unless memory is wanting
 
 pub complete-run : (call : Call) (status : Status) (order : RunOrder) (told : List ℕ → Option (List ℕ)) (script : List (ℕ × ℕ)) → Asks call (Run order) told → length (content_of told order.image) ≤ 16777216 → script_of (script_text told order.script) ≡ Ok script → first_unbuilt (record { image = content_of told order.image; script = script }) order.cycles ≡ None → ¬ (Rose call.host.before.faults call.host.after.faults) → ¬ (Rose call.out.before.faults call.out.after.faults) → Answers call status → (status ≡ Done) ⊎ (status ≡ NoMemory)
 complete-run call status order told script asks short read built host out a = a.complete (Run order) told (TextOf (run_by order (content_of told order.image) script)) asks (comes-to order told script short read ∙ ap (λ (o : Option (ℕ × ℕ)). unless_unbuilt o (TextOf (run_by order (content_of told order.image) script))) built) host out

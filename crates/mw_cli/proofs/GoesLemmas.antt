@@ -15,7 +15,7 @@ use Rattle.mw_cli.specs.Answers.{Goes}
 use Rattle.mw_cli.specs.Stages.{ending, IsRunRefusal, IsScriptRefusal}
 use Rattle.mw_cli.proofs.FileLemmas.{Files}
 
--- all are opened
+-- a host that opened all files went as far as the status says, if with ImageTooLarge there is one file at most
 pub goes-all : (host : Change HostState) (files : List Wanted) (status : Status) → Opens host files → (status ≡ ImageTooLarge → length files ≤ 1) → Goes host files status
 goes-all host files status opens short = (
   files,
@@ -29,7 +29,7 @@ goes-all host files status opens short = (
   },
 )
 
--- what went to the last goes there with another status
+-- a host that went as far as Done says went as far as any other status but ImageTooLarge says
 goes-on : (host : Change HostState) (files : List Wanted) (status : Status) → (status ≡ ImageTooLarge → ⊥) → Goes host files Done → Goes host files status
 goes-on host files status other (opened, others, is, opens, far) = (
   opened,
@@ -56,7 +56,7 @@ pub goes-run : (host : Change HostState) (files : List Wanted) (boot : Boot) (n 
 goes-run host files boot n (Ok text) cause goes = goes
 goes-run host files boot n (Err refusal) cause goes = goes-on host files (status_of refusal) (run-other boot n refusal cause) goes
 
--- nor is a script that isn't there
+-- a script that isn't there isn't refused as ImageTooLarge
 pub script-other : (host : Change HostState) (name : List ℕ) (refusal : Refusal) → IsScriptRefusal host name refusal → status_of refusal ≡ ImageTooLarge → ⊥
 script-other host name (Unreadable which) cause e = cc
 script-other host name TooLarge cause e = absurd cause
@@ -65,7 +65,7 @@ script-other host name (Bad which line column) cause e = cc
 script-other host name Unwritable cause e = absurd cause
 script-other host name OutOfMemory cause e = cc
 
--- nor is one that is there
+-- Done isn't ImageTooLarge
 pub done-other : Done ≡ ImageTooLarge → ⊥
 done-other e = cc
 

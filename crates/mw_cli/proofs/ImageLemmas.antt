@@ -27,7 +27,7 @@ SpellsImage image script n dump text =
     × (cycles_of (events_of text) ≡ range_with_len 0 n)
     × (unbuilt_with image script n ≡ None)))
 
--- a text that spells a run of an image and a script spells it so
+-- a text that spells a run of an image and a script spells it without a boot
 pub spells-image : (image : List ℕ) (script : List (ℕ × ℕ)) (n : ℕ) (dump : Option Span) (text : List ℕ) → SpellsRun (run_of image script n dump) text → SpellsImage image script n dump text
 spells-image image script n dump text spells =
     run-spelled (record { image = image; script = script }) n text (Prints (run_of image script n dump) text) spells (λ end last s runs prints.
@@ -35,18 +35,18 @@ spells-image image script n dump text spells =
     has_some (end_of text) end _ s.end_is (has_some (option_map (brought n) (replay (events_of text) (start_with image script))) last _ image_runs.replayed
     (image_runs, prints.whole, prints.each_cycle, sym (unbuilt-image image script n) ∙ prints.built)))
 
--- what a run comes to is what it comes to by its image and its script
+-- what a run comes to, by its image and its script alone
 pub verdict-image : (order : RunOrder) (image : List ℕ) (script : List (ℕ × ℕ)) → verdict_on (run_by order image script) ≡ unless_unbuilt (unbuilt_with image script order.cycles) (TextOf (run_by order image script))
 verdict-image order image script =
     ap (λ (o : Option (ℕ × ℕ)). unless_unbuilt o (TextOf (run_by order image script))) (unbuilt-image image script order.cycles)
 
--- with Done out took such a text
+-- with Done out took a text that spells a run of the image and the script
 pub done-image : (call : Call) (order : RunOrder) → order_of call.words ≡ Some (Run order) → Answers call Done → (image : List ℕ) × (script : List (ℕ × ℕ)) × (text : List ℕ) × IsStart call.host order image script × SpellsImage image script order.cycles order.dump text × Took call.out text
 done-image call order asked a =
     let (image, script, text, start, spells, took) = done-run call order asked a in
     (image, script, text, start, spells-image image script order.cycles order.dump text spells, took)
 
--- and with WriteFault a front of it
+-- with WriteFault out took a front of a text that spells a run of the image and the script
 pub cut-image : (call : Call) (order : RunOrder) → order_of call.words ≡ Some (Run order) → Answers call WriteFault → (image : List ℕ) × (script : List (ℕ × ℕ)) × (text : List ℕ) × IsStart call.host order image script × SpellsImage image script order.cycles order.dump text × TookFront call.out text
 cut-image call order asked a =
     let (image, script, text, start, spells, took) = cut-run call order asked a in

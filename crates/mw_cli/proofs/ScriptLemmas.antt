@@ -23,7 +23,7 @@ front-gives text = elim (cases_lt 1048576 (length text)) [
       ∙ sym (script_of-long text long)
 ]
 
--- so what the front gives, the file gives
+-- what the front of a script's file gives, the file gives
 pub script-gives : (files : Files) (name bytes : List ℕ) (r : Result (List (ℕ × ℕ)) Place) → IfSome files (λ told. bytes ≡ take (1048576 + 1) (content_of told name)) → script_of bytes ≡ r → (text : List ℕ) × IfSome files (λ told. text ≡ content_of told name) × (script_of text ≡ r)
 script-gives None name bytes r front e = (bytes, tt, e)
 script-gives (Some told) name bytes r front e = (content_of told name, refl, sym (front-gives (content_of told name)) ∙ ap script_of (sym front) ∙ e)
@@ -37,7 +37,7 @@ script-unread host name (Bad which line column) cause = absurd cause
 script-unread host name Unwritable cause = cause
 script-unread host name OutOfMemory cause = cause
 
--- so is what a text of the file gives
+-- a script that a text of the file gives is the file's script
 pub script-told : (host : Change HostState) (name bytes text : List ℕ) (r : Result (List (ℕ × ℕ)) Refusal) → text ≡ bytes → IsFront host (record { name = name; most = 1048576 }) bytes → IfOk r (λ script. script_of text ≡ Ok script) → IfOk r (IsScript host name)
 script-told host name bytes text (Ok script) is front e = script-gives host.before.files name bytes (Ok script) front (ap script_of (sym is) ∙ e)
 script-told host name bytes text (Err refusal) is front e = tt

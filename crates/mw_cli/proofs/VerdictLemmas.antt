@@ -30,7 +30,7 @@ fits image verdict h = ap (λ (b : Bool). cond b (Refuses ImageTooLarge too_larg
 pub too_long : (image : List ℕ) (verdict : Verdict) → 16777216 < length image → unless_too_large image verdict ≡ Refuses ImageTooLarge too_large_line
 too_long image verdict h = ap (λ (b : Bool). cond b (Refuses ImageTooLarge too_large_line) verdict) (lt-ltb 16777216 (length image) h)
 
--- the one file has the one content
+-- an order of one file has one content
 one-content : (files : Files) (name bytes : List ℕ) → IfSome files (λ told. bytes ≡ content_of told name) → IfSome files (λ told. bytes ∷ [] ≡ content_of told name ∷ [])
 one-content None name bytes is = tt
 one-content (Some told) name bytes is = ap (λ (x : List ℕ). x ∷ []) is
@@ -45,7 +45,7 @@ image-contents : (files : Files) (name : List ℕ) (script : Option (List ℕ)) 
 image-contents None name script image is = (image ∷ [], tt, refl)
 image-contents (Some told) name script image is = (contents_of told (record { name = name; most = ram_size } ∷ script_files script), refl, sym is)
 
--- and the script this text
+-- what the files of a run have, where the image has these bytes and the script this text
 both-contents : (files : Files) (name : List ℕ) (script : Option (List ℕ)) (image text : List ℕ) → IfSome files (λ told. image ≡ content_of told name) → IsText files script text → (contents : List (List ℕ)) × IfSome files (λ told. contents ≡ contents_of told (record { name = name; most = ram_size } ∷ script_files script)) × (first_of contents ≡ image) × (text_by script contents ≡ text)
 both-contents None name None image text is t = (image ∷ [], tt, refl, sym t)
 both-contents None name (Some script) image text is t = (image ∷ text ∷ [], tt, refl, refl)
@@ -95,7 +95,7 @@ gives-source host name bytes (source, is, e) = (Bytes bytes, comes-source host n
 pub gives-listing : (host : Change HostState) (name image text : List ℕ) → IsContent host name image → length image ≤ 16777216 → text ≡ disassembly image → Gives host (Disassemble name) text
 gives-listing host name image text is short e = (Bytes (disassembly image), comes-listing host name image (Writes (Bytes (disassembly image))) is (fits image _ short), e)
 
--- a file that isn't read
+-- a file that isn't read is the one that the order asked for last
 unread : (host : Change HostState) (order : Order) (name which : List ℕ) → option_map (λ (file : Wanted). file.name) (slice_get (files_of order) 0) ≡ Some name → RoseBy 1 host.before.opened host.after.opened → which ≡ name → IsAbsent host name → IsUnread host order which
 unread host order name which first opened e absent =
     (0, first ∙ ap Some (sym e), opened, λ sound. subst (λ (n : List ℕ). IsSomeAnd host.before.files (λ told. told n ≡ None)) (sym e) (absent sound))
@@ -127,7 +127,7 @@ source-unread host name (Bad which line column) opened cause = absurd cause
 source-unread host name Unwritable opened cause = absurd cause
 source-unread host name OutOfMemory opened cause = tt
 
--- a source that is refused
+-- a source that is refused comes to BadInput with its place
 pub source-bad : (host : Change HostState) (name : List ℕ) (place : Place) → (source : List ℕ) × IsContent host name source × (assembled source ≡ Err place) → ComesTo host (Assemble name) (Refuses BadInput (bad_line name place.line place.column))
 source-bad host name place (source, is, e) = comes-source host name source (Refuses BadInput (bad_line name place.line place.column)) is (ap (unless_bad name) e)
 
@@ -136,7 +136,7 @@ text-since : (files since : Files) (named : Option (List ℕ)) (name text : List
 text-since files since named name text same e is =
     subst (λ (n : Option (List ℕ)). IsText files n text) (sym e) (subst (λ (f : Files). IfSome f (λ told. text ≡ content_of told name)) same is)
 
--- where none is named, no byte arrives
+-- a run without a script is started without a byte that arrives
 pub starts-alone : (host : Change HostState) (order : RunOrder) (image : List ℕ) (script : List (ℕ × ℕ)) → order.script ≡ None → script ≡ [] → IsContent host order.image image → length image ≤ ram_size → IsStart host order image script
 starts-alone host order image script e none is short = record {
   image_is = is;
@@ -153,7 +153,7 @@ absent-since before middle after name which same sound e absent = λ s.
 second-name : (image : Wanted) (named : Option (List ℕ)) (name which : List ℕ) → named ≡ Some name → which ≡ name → option_map (λ (file : Wanted). file.name) (slice_get (image ∷ script_files named) 1) ≡ Some which
 second-name image named name which e w = ap (λ (n : Option (List ℕ)). option_map (λ (file : Wanted). file.name) (slice_get (image ∷ script_files n) 1)) e ∙ ap Some (sym w)
 
--- a script that is refused at a place
+-- a run whose script is refused at a place comes to BadInput with that place
 pub refused : (order : RunOrder) (image name text : List ℕ) (place : ScriptPlace) → length image ≤ 16777216 → order.script ≡ Some name → script_of text ≡ Err place → verdict_by order image text ≡ Refuses BadInput (bad_line name place.line place.column)
 refused order image name text place short e bad =
     fits image _ short
@@ -163,7 +163,7 @@ comes-bad : (host : Change HostState) (order : RunOrder) (image name which text 
 comes-bad host order image name which text place is short e w t bad =
     comes-run host order image text (Refuses BadInput (bad_line which place.line place.column)) is t (refused order image which text place short (e ∙ ap Some (sym w)) bad)
 
--- that it is a text of the script's shows the script
+-- a script that a text of its file gives is the script of the run
 pub script-from : (host : Change HostState) (named : Option (List ℕ)) (text : List ℕ) (script : List (ℕ × ℕ)) → IsText host.before.files named text → script_of text ≡ Ok script → IsScriptOf host named script
 script-from host None text script is read = sym (ap script_of is) ∙ read
 script-from host (Some name) text script is read = (text, is, read)

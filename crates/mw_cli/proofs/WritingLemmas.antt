@@ -7,16 +7,16 @@ use Rattle.mw_cli.specs.Stages.{line_of}
 use Rattle.std.proofs.Math.Seq.{take-append-add}
 use Rattle.std.proofs.lemmas.List.{take-append-le}
 
--- one piece behind another is both
+-- a sink that took one piece and then another took both
 pub both-took : (t u v : Option (List ℕ)) (a b : List ℕ) → u ≡ with_more t a → v ≡ with_more u b → v ≡ with_more t (a ++ b)
 both-took None u v a b p q = q ∙ ap (λ (x : Option (List ℕ)). with_more x b) p
 both-took (Some x) u v a b p q = q ∙ ap (λ (x : Option (List ℕ)). with_more x b) p ∙ ap Some (append_assoc x a b)
 
--- what rose later has risen since before
+-- a count that rose later has risen since before
 pub rose-since : (a b c : ℕ) → a ≤ b → Rose b c → Rose a c
 rose-since a b c h r = omega arith
 
--- one of two counts rose, since before
+-- one of two counts that rose later has risen since before
 either-since : (f g h w x y : ℕ) → f ≤ g → w ≤ x → (Rose g h ⊎ Rose x y) → (Rose f h ⊎ Rose w y)
 either-since f g h w x y fg wx (inl r) = inl (rose-since f g h fg r)
 either-since f g h w x y fg wx (inr r) = inr (rose-since w x y wx r)
@@ -38,12 +38,12 @@ pub both-cases : (r : Bool) (s t u : SinkState) (a b : List ℕ) → s.faults �
 both-cases true s t u a b faults wants first second = both-took s.taken t.taken u.taken a b first second
 both-cases false s t u a b faults wants first second = second-stopped s t u a b faults wants first second
 
--- either way
+-- a sink took all the bytes, or stopped within them
 pub took_or_stopped : (r : Bool) (sink : Change SinkState) (bytes : List ℕ) → MatchBool r (Took sink bytes) (Stopped sink bytes) → TookUnlessFault sink bytes
 took_or_stopped true sink bytes took = inl took
 took_or_stopped false sink bytes stopped = inr stopped
 
--- what was told is the line of the refusal
+-- the line that was told is that of the refusal
 pub told : (sink : Change SinkState) (bytes : List ℕ) (refusal which : Refusal) → refusal ≡ which → bytes ≡ line_of which → TookUnlessFault sink bytes → TookUnlessFault sink (line_of refusal)
 told sink bytes refusal which is e took =
     subst (TookUnlessFault sink) (e ∙ ap line_of (sym is)) took

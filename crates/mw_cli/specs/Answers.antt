@@ -33,7 +33,7 @@ unwritten_line = codes "mw: cannot write\n"
 abbrev pub no_memory_line : List ℕ
 no_memory_line = codes "mw: out of memory\n"
 
--- the order comes to this, with what its files have where the host tells them, and else with some contents
+-- the order comes to this verdict, with what its files have where the host tells them, and else with some contents
 abbrev pub ComesTo : Change HostState → Order → Verdict → Type 0
 ComesTo host order verdict = (contents : List (List ℕ)) × AreContents host (files_of order) contents × (verdict_of order contents ≡ verdict)
 
@@ -103,7 +103,7 @@ IsUnanswered call status = ((status ≡ ReadFault) × Rose call.host.before.faul
 pub record Answers (call : Call) (status : Status) : Type 0 where
   -- each status says why it comes, and what out and err took
   pub says : Says call status
-  -- and it comes where its count rises
+  -- a status comes where its count rises
   pub faults : Faults call.host call.out status
   -- a refusal comes wherever the order comes to it, unless a call of the host failed or memory is wanting
   pub exactly : (order : Order) (told : List ℕ → Option (List ℕ)) (refused : Status) (line : List ℕ) → Asks call order told → verdict_with told order ≡ Refuses refused line → (status ≡ refused) ⊎ IsUnanswered call status
@@ -115,11 +115,11 @@ pub record Answers (call : Call) (status : Status) : Type 0 where
 
 -- how far a call that ends with this status goes through its files: some are opened, in order, and the others aren't
 pub record GoesFar (status : Status) (opened others : List Wanted) : Type 0 where
-  -- with Done and WriteFault it goes to the last
+  -- with Done and WriteFault the call goes to the last file
   pub to_last : (status ≡ Done) ⊎ (status ≡ WriteFault) → others ≡ []
-  -- with ImageTooLarge no further than to the first
+  -- with ImageTooLarge the call goes no further than to the first file
   pub no_further : status ≡ ImageTooLarge → length opened ≤ 1
-  -- and with any other status but NoMemory at least to the first
+  -- with any other status but NoMemory the call goes at least to the first file
   pub to_first : ¬ (status ≡ NoMemory) → opened ≡ [] → others ≡ []
 
 -- a host goes through these files, so far as the status says

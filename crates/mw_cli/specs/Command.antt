@@ -101,25 +101,25 @@ pub record Asked : Type 0 where
   pub dump : Option Span
   pub script : Option (List ℕ)
 
--- what the code's object stands for
+-- the dump and the script that the code's object stands for
 abbrev pub asked_in : More → Asked
 asked_in more = record { dump = more.dump; script = script_in more }
 
--- one of the two, by an option and its word
+-- a dump alone, or a script alone, by an option and its word
 abbrev pub one_asked : List ℕ → List ℕ → Option Asked
 one_asked option word =
     if bytes_eq option (codes "--script")
     then (if is_name word then Some (record { dump = None; script = Some word }) else None)
     else option_map (λ span. record { dump = Some span; script = None }) (dump_by option word)
 
--- both, the dump first, by two options and their words
+-- a dump and then a script, by two options and their words
 abbrev pub both_asked : List ℕ → List ℕ → List ℕ → List ℕ → Option Asked
 both_asked option word second name =
     if bytes_eq second (codes "--script") && is_name name
     then option_map (λ span. record { dump = Some span; script = Some name }) (dump_by option word)
     else None
 
--- what these words ask for: nothing more, one of the two, or both
+-- what these words ask for behind a number of cycles: nothing more, a dump, a script, or both
 unfoldable pub asked_of : List (List ℕ) → Option Asked
 asked_of [] = Some (record { dump = None; script = None })
 asked_of (option ∷ word ∷ []) = one_asked option word

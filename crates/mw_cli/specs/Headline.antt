@@ -25,11 +25,11 @@ run_of image script cycles dump = record { boot = record { image = image; script
 
 -- the text is printed of this run, which has these events, this end and this last state
 pub record Prints (run : AskedRun) (text : List ℕ) (events : List Event) (end : End) (last : State) : Type 0 where
-  -- it is theirs, with the dump that is asked for, and no more
+  -- the text is that of the run's events and end, with the dump that is asked for, and no more
   pub whole : text ≡ text_of events end last run.dump
   -- on the plain board event k has cycle k
   pub each_cycle : cycles_of events ≡ range_with_len 0 run.cycles
-  -- and the run meets no instruction that isn't built
+  -- the run meets no instruction that isn't built
   pub built : first_unbuilt run.boot run.cycles ≡ None
 
 -- the text is printed of this run, whose events and end stand in it

@@ -9,7 +9,7 @@ pub record Change (A : Type 0) : Type 0 where
   pub before : A
   pub after : A
 
--- the change from one to the other
+-- the change from a state before a call to the state after it
 abbrev pub change : {A : Type 0} → A → A → Change A
 change before after = record { before = before; after = after }
 

@@ -33,7 +33,7 @@ pub data Output : Type 0 where
   TextOf : AskedRun → Output
   Bytes : List ℕ → Output
 
--- this is such a text, or these are the bytes
+-- the text is one of this run, or consists of these bytes
 abbrev pub IsOutput : Output → List ℕ → Type 0
 IsOutput (TextOf run) text = SpellsRun run text
 IsOutput (Bytes bytes) text = text ≡ bytes
@@ -53,7 +53,7 @@ abbrev pub first_of : List (List ℕ) → List ℕ
 first_of [] = []
 first_of (bytes ∷ others) = bytes
 
--- the second of them
+-- the second of the files' contents
 abbrev pub second_of : List (List ℕ) → List ℕ
 second_of [] = []
 second_of (bytes ∷ others) = first_of others

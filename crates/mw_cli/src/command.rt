@@ -30,7 +30,7 @@ pub struct RunCommand<'a> {
     pub image: &'a str,
     /// How many cycles the run has. In an order they are at most `MOST_CYCLES`.
     pub cycles: u64,
-    /// What else it is asked for.
+    /// What else the run is asked for.
     pub more: More<'a>,
 }
 

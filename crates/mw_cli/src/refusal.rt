@@ -15,11 +15,11 @@ pub enum Refusal<'a> {
     },
     /// The source or the script is refused.
     Bad {
-        /// The name of its file.
+        /// The name of the file of the source or the script.
         name: &'a str,
         /// The line of the first refused place, counted from 1.
         line: u32,
-        /// Its column; the line's first byte is column 1.
+        /// The column of the first refused place; the line's first byte is column 1.
         column: u32,
     },
     /// A write to out failed, after a front of the text or of the image.

@@ -23,7 +23,7 @@ use std::alloc::Global;
 /// What the board is started with.
 #[derive(Drop)]
 struct Start {
-    /// The bytes that stand in RAM. They fit it.
+    /// The bytes that stand in RAM, which has room for them.
     image: Vec<u8>,
     /// The bytes that arrive at the UART.
     script: Script,

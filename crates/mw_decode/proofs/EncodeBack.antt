@@ -26,7 +26,7 @@ use Rattle.mw_decode.specs.Encode.{all_operands, words_of, encode_of, number_of,
 use Rattle.mw_decode.proofs.EncodeParts.{opening-prefix}
 use Rattle.mw_decode.proofs.EncodeRows.{encode_of-at, forms-read}
 
--- what a word is without a row is no instruction
+-- a word that has no row is no instruction
 without_row-none : (word : ℕ) → OnInsn (λ insn. ⊥) (without_row word)
 without_row-none word = search rules
 
@@ -177,7 +177,7 @@ all_operands-read code place row layout =
 clear_at : (insn : Insn) (row : TableRow) (layout : Layout) (code : Code) → slice_get table insn.row ≡ Some row → slice_get layouts insn.row ≡ Some layout → HasNoReserved insn code → bit_and (number_of code) (used_bits row layout) ≡ number_of code
 clear_at insn row layout code r l clear = let one = rw r at clear in let both = rw l at one in both
 
--- encoding it gives the words again, where their reserved bits are 0
+-- encoding the instruction of a word, or of a prefix and a suffix, gives them again, where their reserved bits are 0
 pub encoded_again : (word : ℕ) (suffix : Option ℕ) (place : ℕ) (row : TableRow) (layout : Layout) → IfSome suffix (λ n. n < 2 ^ 32) → place_of word suffix ≡ Some place → slice_get table place ≡ Some row → slice_get layouts place ≡ Some layout → HasNoReserved (insn_of (number_of (record { word = word; suffix = suffix })) place row layout) (record { word = word; suffix = suffix }) → encode_of (insn_of (number_of (record { word = word; suffix = suffix })) place row layout) ≡ record { word = word; suffix = suffix }
 encoded_again word suffix place row layout below found r l clear =
     let code = number_of (record { word = word; suffix = suffix }) in

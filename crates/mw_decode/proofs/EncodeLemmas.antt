@@ -36,7 +36,7 @@ encode_of-prefix insn is =
     subst (λ (w : Code). is_some w.suffix ≡ is_prefix w.word) (sym (encode_of-at insn row layout at.row_there at.layout_there))
     (prefix_of-code row.prefix (code_of row layout zs) insn.row row at.row_there refl (code_of-lt row layout zs sound) (code_of-suffix row layout zs sound) (code_of-prefix row layout zs sound))
 
--- its reserved bits are 0
+-- the reserved bits of an instruction's words are 0
 pub encode_of-reserved : (insn : Insn) → IsInsn insn → HasNoReserved insn (encode_of insn)
 encode_of-reserved insn is =
     let found = IsInsn-IsAt insn is in

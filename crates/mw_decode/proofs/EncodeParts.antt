@@ -32,7 +32,7 @@ code_with_all-next code fs zs place within_fields within =
     ∙ sym (ap (λ (gs : List Field). bit_or code (code_with_all gs (drop place zs))) (drop-cons fs place blank within_fields)
     ∙ ap (λ (ys : List ℤ). bit_or code (code_with_all (f ∷ drop (suc place) fs) ys)) (drop-cons zs place (pos 0) within))
 
--- where every field is written, nothing is left
+-- where every field is written, the code is whole
 pub code_with_all-end : (code : ℕ) (fs : List Field) (zs : List ℤ) → bit_or code (code_with_all (drop (length fs) fs) (drop (length fs) zs)) ≡ code
 code_with_all-end code fs zs = ap (λ (gs : List Field). bit_or code (code_with_all gs (drop (length fs) zs))) (drop-length fs) ∙ or_zero_r code
 
@@ -97,7 +97,7 @@ pub prefix-opening : (prefix number : ℕ) → prefix < 2 ^ 32 → bit_and prefi
 prefix-opening prefix number below is =
     let high : prefix / 2 ^ 23 % 2 ^ 9 * 2 ^ 23 ≡ number * 2 ^ 23 = sym (and_high prefix 9 23) ∙ is in omega arith
 
--- and the other way
+-- a prefix with these bits 0 to 8 has them as its fixed bits
 pub opening-prefix : (prefix number : ℕ) → number < 2 ^ 9 → prefix / 2 ^ 23 ≡ number → bit_and prefix (2 ^ 32 - 2 ^ 23) ≡ number * 2 ^ 23
 opening-prefix prefix number below is =
     and_high prefix 9 23 ∙ ap (λ n. n % 2 ^ 9 * 2 ^ 23) is ∙ ap (λ n. n * 2 ^ 23) (mod-eq_of_lt below)
@@ -125,7 +125,7 @@ eight-IsPrefixOf prefix is = record {
 nop-IsPrefixOf : IsPrefixOf Nop (7 * 2 ^ 24)
 nop-IsPrefixOf = record { opens = refl; leads = λ suffix. refl }
 
--- the same of a kind that has a prefix
+-- what is known of a prefix of this kind, and nothing of a kind without a prefix
 abbrev pub OfKind : PrefixKind → ℕ → Type 0
 OfKind Plain prefix = Unit {0}
 OfKind Mls prefix = IsPrefixOf Mls prefix
@@ -143,7 +143,7 @@ prefix-IsPrefixOf Nop prefix below is = subst (IsPrefixOf Nop) (sym (nop_bits pr
 abbrev is_plain : TableRow → Bool
 is_plain row = (row.mask / 2 ^ 26 == 63) && not (row.value / 2 ^ 26 == 1)
 
--- so is each row that has no prefix
+-- each of these rows that has no prefix fixes its opcode, and not as 1
 abbrev are_plain : List TableRow → Bool
 are_plain [] = true
 are_plain (row ∷ rows) = (not (kind_number row.prefix == 0) || is_plain row) && are_plain rows

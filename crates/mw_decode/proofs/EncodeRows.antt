@@ -40,12 +40,12 @@ at_both insn (Some row) (Some layout) r l forms operands = (row, layout, record 
 pub IsInsn-IsAt : (insn : Insn) → IsInsn insn → (row : TableRow) × (layout : Layout) × IsAt insn row layout
 IsInsn-IsAt insn is = at_both insn (slice_get table insn.row) (slice_get layouts insn.row) refl refl is.forms is.operands
 
--- its words are those of its row's code
+-- an instruction's words are those of its row's code
 pub encode_of-at : (insn : Insn) (row : TableRow) (layout : Layout) → slice_get table insn.row ≡ Some row → slice_get layouts insn.row ≡ Some layout → encode_of insn ≡ words_of row.prefix (code_of row layout (all_operands insn))
 unfolding encode_of
 encode_of-at insn row layout r l = rw (r, l)
 
--- its operands and forms are in range
+-- an instruction's operands and forms are in range
 pub all_operands-HasOperands : (insn : Insn) (row : TableRow) (layout : Layout) → IsAt insn row layout → HasOperands (all_fields row layout) (all_operands insn)
 all_operands-HasOperands insn row layout at =
     HasOperands-append (fields_of layout) (flags_of row) insn.ops.items (flag_operands insn) at.operands
@@ -151,7 +151,7 @@ code_of-written insn row layout fs gs xs ys fixed operands forms at p q r fields
     ∙ ap (λ n. bit_or (fixed_value row) (bit_or (code_with_all (fields_of layout) insn.ops.items) n)) second
     ∙ ap (bit_or (fixed_value row)) (sym (code_with_all-append (fields_of layout) (flags_of row) insn.ops.items (flag_operands insn) (HasOperands-length (fields_of layout) insn.ops.items at.operands)))
 
--- it has a word's bits, or those of a prefix and a suffix
+-- an instruction's code has a word's bits, or those of a prefix and a suffix
 pub code_of-room : (insn : Insn) (row : TableRow) (layout : Layout) → IsAt insn row layout → code_of row layout (all_operands insn) < 2 ^ bits_of_kind row.prefix
 code_of-room insn row layout at = code_of-lt row layout (all_operands insn) (row-sound insn.row row layout at.row_there at.layout_there)
 

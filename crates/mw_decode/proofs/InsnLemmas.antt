@@ -39,7 +39,7 @@ insn_at-IsInsn : (code : ℕ) (place : Option ℕ) → OnSome IsInsn (insn_at co
 insn_at-IsInsn code None = tt
 insn_at-IsInsn code (Some place) = insn_by-IsInsn code place (slice_get table place) (slice_get layouts place) refl refl
 
--- what a word is else is no instruction
+-- what a word without a row is, is no instruction
 without_row-OnInsn : (word : ℕ) → OnInsn IsInsn (without_row word)
 without_row-OnInsn word = search rules
 
@@ -60,11 +60,11 @@ unfolding decode_of
 decode_of-IsInsn word suffix =
     insn_or-OnInsn (insn_at (code_of word suffix) (place_of word suffix)) (otherwise word suffix) (insn_at-IsInsn (code_of word suffix) (place_of word suffix)) (otherwise-OnInsn word suffix)
 
--- so is an instruction that a word is known to be
+-- an instruction that a word is known to be is of the table
 pub decode_of-Is : (word : ℕ) (suffix : Option ℕ) (insn : Insn) → decode_of word suffix ≡ Is insn → IsInsn insn
 decode_of-Is word suffix insn is = let moved = subst (λ d. OnInsn IsInsn d) is (decode_of-IsInsn word suffix) in moved
 
--- what a word is else is no instruction, by the test
+-- what a word without a row is, is no instruction, by the test
 without_row-is_insn : (word : ℕ) → is_insn (without_row word) ≡ false
 without_row-is_insn word = search rules
 
@@ -81,12 +81,12 @@ unfolding decode_of
 found-Decodes word suffix true insn e = ap (λ (o : Option Insn). insn_or o (otherwise word suffix)) e
 found-Decodes word suffix false insn e = ap (λ (o : Option Insn). is_insn (insn_or o (otherwise word suffix))) e ∙ otherwise-is_insn word suffix
 
--- and one that was found is of the table
+-- an instruction that was found is of the table
 pub found-IsInsn : (word : ℕ) (suffix : Option ℕ) (there : Bool) (insn : Insn) → Finds there insn (found_of word suffix) → there ≡ true → IsInsn insn
 found-IsInsn word suffix true insn e is = subst (λ (d : Decoded). OnInsn IsInsn d) (found-Decodes word suffix true insn e) (decode_of-IsInsn word suffix)
 found-IsInsn word suffix false insn e is = cc
 
--- a word that is no instruction is what it is else
+-- a word that is no instruction is what the definition says otherwise
 insn_or-other : (found : Option Insn) (other : Decoded) → is_insn (insn_or found other) ≡ false → other ≡ insn_or found other
 insn_or-other (Some insn) other e = cc
 insn_or-other None other e = refl

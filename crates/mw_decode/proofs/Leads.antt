@@ -56,7 +56,7 @@ matches-is_of kind word row there =
     let matched : bit_and word row.mask ≡ row.value = eqb-true _ _ both.1 in
     both_true _ _ both.0 (eq-eqb _ _ (sym (and_shr word row.mask 26) ∙ ap (λ n. n / 2 ^ 26) matched))
 
--- the place that the group has for a word is that of the row that matches, or the one before it
+-- the place that an opcode's group has for a word is that of the row that matches, or the one before it
 pub get_or-rows : (rows : List TableRow) (kind : PrefixKind) (group : Group) (from word place : ℕ) → rows_lead kind (word / 2 ^ 26) group rows from ≡ true → key_of group word < length group.places.now → MatchesAt rows kind word place → IsNear (get_or group.places.now (key_of group word) 0) (from + place)
 get_or-rows [] kind group from word place fit within there = absurd there
 get_or-rows (r ∷ rs) kind group from word zero fit within there =

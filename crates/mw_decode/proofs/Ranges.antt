@@ -20,12 +20,12 @@ pub IsInsn-operands : (insn : Insn) (place : ℕ) (layout : Layout) → IsInsn i
 IsInsn-operands insn place layout is at there =
     at_value (slice_get layouts insn.row) layout (λ l. HasOperands (fields_of l) insn.ops.items) (ap (slice_get layouts) at ∙ there) is.operands
 
--- its forms
+-- an instruction has only forms of its row
 pub IsInsn-forms : (insn : Insn) (place : ℕ) (row : TableRow) → IsInsn insn → insn.row ≡ place → slice_get table place ≡ Some row → HasForms row insn
 IsInsn-forms insn place row is at there =
     at_value (slice_get table insn.row) row (λ r. HasForms r insn) (ap (slice_get table) at ∙ there) is.forms
 
--- its row does not forbid its operands
+-- an instruction's row does not forbid its operands
 pub IsInsn-legal : (insn : Insn) (place : ℕ) (rule : Rule) → IsInsn insn → insn.row ≡ place → slice_get row_rules place ≡ Some rule → is_illegal rule insn.ops.items ≡ false
 IsInsn-legal insn place rule is at there =
     sym (ap (λ (o : Option Rule). option_map_or (λ r. is_illegal r insn.ops.items) o false) (ap (slice_get row_rules) at ∙ there)) ∙ is.legal
@@ -39,7 +39,7 @@ pub table_count : length table ≡ row_count
 unfolding table lines
 table_count = refl
 
--- its row is in the table
+-- an instruction's row is in the table
 pub IsInsn-row : (insn : Insn) → IsInsn insn → insn.row < row_count
 IsInsn-row insn is = omega (arith, in_list (slice_get table insn.row) (λ r. HasForms r insn) table insn.row refl is.forms, table_count)
 
@@ -47,6 +47,6 @@ with_layout : (insn : Insn) (row : TableRow) (layout : Option Layout) → slice_
 with_layout insn row None at laid has = absurd has
 with_layout insn row (Some layout) at laid has = (layout, sym (row-layout insn.row row layout at laid), has)
 
--- its row's layout has the operand list of the row, and gives its operands
+-- the layout of an instruction's row has the operand list of the row, and gives the operands
 pub IsInsn-layout : (insn : Insn) (row : TableRow) → IsInsn insn → slice_get table insn.row ≡ Some row → (layout : Layout) × (shape_of layout ≡ row.shape) × HasOperands (fields_of layout) insn.ops.items
 IsInsn-layout insn row is at = with_layout insn row (slice_get layouts insn.row) at refl is.operands

@@ -86,7 +86,7 @@ abbrev pub otherwise : ℕ → Option ℕ → Decoded
 otherwise word None = without_row word
 otherwise word (Some suffix) = without_row_prefixed word suffix
 
--- an instruction, or what it is else
+-- an instruction, or where there is none what the word is otherwise
 abbrev pub insn_or : Option Insn → Decoded → Decoded
 insn_or (Some insn) other = Is insn
 insn_or None other = other
@@ -95,7 +95,7 @@ insn_or None other = other
 unfoldable pub decode_of : ℕ → Option ℕ → Decoded
 decode_of word suffix = insn_or (found_of word suffix) (otherwise word suffix)
 
--- it is an instruction
+-- what a word is, is an instruction
 abbrev pub is_insn : Decoded → Bool
 is_insn (Is insn) = true
 is_insn (Unavailable facility) = false

@@ -87,6 +87,6 @@ without_row word =
     else if is_extended string_codes word then Alignment (ra_of word) None (pos 0)
     else Illegal
 
--- the same of a prefix and its suffix
+-- what a prefix and its suffix are that have no row, or an illegal form of one: of a facility that isn't there, or illegal
 abbrev pub without_row_prefixed : ℕ → ℕ → Decoded
 without_row_prefixed prefix suffix = if is_mls prefix && is_in float_suffixes (opcode_of suffix) then Unavailable Fp else Illegal

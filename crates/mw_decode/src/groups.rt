@@ -7,9 +7,9 @@ use mw_tables::PrefixKind;
 
 /// Where the rows of a primary opcode are found: by a part of the word, or of the suffix.
 pub struct Group {
-    /// How many bits stand to the right of that part.
+    /// How many bits stand to the right of the part.
     pub shift: u32,
-    /// The ones of that part, at the right.
+    /// The ones of the part, at the right.
     pub mask: u32,
     /// The place in the table for each number that the part can hold. Where two rows share the
     /// number, they are neighbours, and it is the first one's place.

@@ -64,7 +64,7 @@ pub enum Decoded {
         /// The displacement in bytes, of load and store multiple, and else 0.
         disp: i64,
     },
-    /// Anything else, and an illegal form of a row.
+    /// Any other word, and an illegal form of a row.
     Illegal,
 }
 

@@ -8,7 +8,7 @@ ghost use Rattle.mw_decode.specs.Rules.{counts, is_illegal, is_illegal_form, row
 /// them.
 #[derive(Clone, Copy, Debug, PartialEq, Eq)]
 pub enum Rule {
-    /// With none.
+    /// No operands are an illegal form.
     AlwaysLegal,
     /// A load with update: RA is 0 or RT.
     LoadUpdate { ra: usize },

@@ -18,7 +18,7 @@ use Rattle.mw_digits.specs.Digits.{digits_of, hex, hex_digit, short_hex, signed_
 digit-hexadecimal : (d : ℕ) → d < 16 → is_ascii_hexdigit (hex_digit d) ≡ true
 digit-hexadecimal d small = grind (arith, nat_tests)
 
--- a number's hexadecimal digits are such digits
+-- the bytes of a number's hexadecimal digits are hexadecimal digits
 pub hex-hexadecimal : (k n : ℕ) → list_all is_ascii_hexdigit (hex k n) ≡ true
 unfolding hex
 hex-hexadecimal zero n = refl
@@ -79,13 +79,13 @@ digits_of-fits (suc k) n fits =
     (λ is. digits_of-fits k n (subst (λ (j : ℕ). n < 16 ^ j) next (ltb-true n (16 ^ suc k) is)))
     (λ is. fits)
 
--- it has one at least
+-- a number has at least one hexadecimal digit
 pub digits_of-some : (k n : ℕ) → 0 < digits_of k n
 unfolding digits_of
 digits_of-some zero n = omega arith
 digits_of-some (suc k) n = cond_both (nat_lt n (16 ^ suc k)) (digits_of k n) (suc k + 1) (λ (j : ℕ). 0 < j) (λ is. digits_of-some k n) (λ is. omega arith)
 
--- and no more than those that were counted
+-- a number has at most one hexadecimal digit more than so many
 pub digits_of-most : (k n : ℕ) → digits_of k n ≤ k + 1
 unfolding digits_of
 digits_of-most zero n = omega arith
@@ -109,7 +109,7 @@ digits-ascii (d ∷ ds) are =
     let high : d ≤ 57 = range.1 in
     and_from (is_ascii_digit d) (list_all is_ascii_digit ds) (grind (arith, nat_tests)) (digits-ascii ds are.1)
 
--- a number's decimal digits are such digits
+-- the bytes of a number's decimal digits are decimal digits
 pub decimal-digits : (n : ℕ) → n < 2 ^ 64 → list_all is_ascii_digit (decimal n) ≡ true
 decimal-digits n below = digits-ascii (decimal n) (decimal_is_IsNumeral n below).0.1
 
@@ -135,7 +135,7 @@ decimal-some n =
     let d = digit_glyph false (n % 10) in
     either-some (n / 10 == 0) d [] (digits_onto 63 10 false (n / 10) (d ∷ [])) (digits_onto-some 63 (n / 10) d [])
 
--- and 20 at most
+-- a number of 64 bits has at most 20 decimal digits
 pub decimal-short : (n : ℕ) → n < 2 ^ 64 → length (decimal n) ≤ 20
 decimal-short n below = length-decimal-le 20 n (omega arith) (omega arith) below
 

@@ -13,7 +13,7 @@ pub record AreWritten (digits : List ℕ) (number rest place : ℕ) : Type 0 whe
   pub behind : drop place digits ≡ hex (length digits - place) number
   pub before : rest ≡ number / 16 ^ (length digits - place)
 
--- none is written
+-- no digit is written at the start, and the rest is the number
 pub written-none : (digits : List ℕ) (number : ℕ) → AreWritten digits number number (length digits)
 unfolding hex
 written-none digits number =
@@ -23,7 +23,7 @@ written-none digits number =
       before = sym (ap (λ k. number / 16 ^ k) e ∙ div-one number);
     }
 
--- one more is written
+-- one digit more is written, in front of the others
 pub written-more : (digits : List ℕ) (number rest place d : ℕ) → 0 < place → place ≤ length digits → d ≡ hex_digit (rest % 16) → AreWritten digits number rest place → AreWritten (slice_set digits (place - 1) d) number (rest / 16) (place - 1)
 unfolding hex
 written-more digits number rest place d pos within is w =
@@ -45,11 +45,11 @@ written-more digits number rest place d pos within is w =
 pair-high : (n : ℕ) → n < 256 → slice_index PAIRS (2 * n) ≡ hex_digit (n / 16)
 pair-high n small = eqb-true _ _ (agree_below_at (λ k. eqb (slice_index PAIRS (2 * k)) (hex_digit (k / 16))) (λ k. true) 256 n refl small)
 
--- the second one
+-- the second digit of a pair
 pair-low : (n : ℕ) → n < 256 → slice_index PAIRS (2 * n + 1) ≡ hex_digit (n % 16)
 pair-low n small = eqb-true _ _ (agree_below_at (λ k. eqb (slice_index PAIRS (2 * k + 1)) (hex_digit (k % 16))) (λ k. true) 256 n refl small)
 
--- two more are written
+-- two digits more are written, in front of the others
 pub written-pair : (digits : List ℕ) (number rest place : ℕ) → 1 < place → place ≤ length digits → AreWritten digits number rest place → AreWritten (slice_set (slice_set digits (place - 1) (slice_index PAIRS (2 * (rest % 256) + 1))) (place - 2) (slice_index PAIRS (2 * (rest % 256)))) number (rest / 256) (place - 2)
 written-pair digits number rest place pos within w =
     let low = slice_index PAIRS (2 * (rest % 256) + 1) in
@@ -84,7 +84,7 @@ power-before (suc k) some =
     let power : 16 ^ suc k ≡ 16 ^ k * 16 = pow-suc 16 k in
     rw e (omega arith)
 
--- a number below a power of 16 has no digit there
+-- a number below a power of 16 has no digit at that power's place
 pub digits-less : (k n : ℕ) → 0 < k → n < 16 ^ k → digits_of (k - 1) n ≡ digits_of k n
 unfolding digits_of
 digits-less zero n some lt = absurd (omega arith)
@@ -92,7 +92,7 @@ digits-less (suc k) n some lt =
     let e : suc k - 1 ≡ k = omega arith in
     ap (λ j. digits_of j n) e ∙ sym (cond-true (nat_lt n (16 ^ suc k)) (digits_of k n) (suc k + 1) (lt-ltb n (16 ^ suc k) lt))
 
--- any other has one
+-- a number that isn't below a power of 16 has a digit at that power's place
 pub digits-all : (k n : ℕ) → (0 < k → 16 ^ k ≤ n) → digits_of k n ≡ k + 1
 unfolding digits_of
 digits-all zero n most = refl

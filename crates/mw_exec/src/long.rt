@@ -21,7 +21,7 @@ fn zero_extended(number: u64) -> Wide128
     }
 }
 
-/// The same with its sign above.
+/// A number in 128 bits, with its sign above.
 fn sign_extended(number: u64) -> Wide128
     ensures { result ≡ sign_extended number }
 {
@@ -79,7 +79,7 @@ fn plain_dividend(kind: DivKind, a: u64) -> Wide128
     }
 }
 
-/// The same with as many zeros behind it.
+/// The dividend a with as many zeros behind it as it has bits.
 fn extended_dividend(kind: DivKind, a: u64) -> Wide128
     ensures { result ≡ extended_dividend kind a }
 {

@@ -31,7 +31,7 @@ fn region_of(pid: u32, page: u64, pages: u64) -> Scope
     }
 }
 
-/// Those that IS of tlbie tells, from RB and the process.
+/// The kept translations that IS of tlbie tells, from RB and the process.
 fn scope_by(is: u64, rb: u64, pid: u32) -> Scope
     ensures { result ≡ scope_by is rb pid }
 {

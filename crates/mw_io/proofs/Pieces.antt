@@ -9,7 +9,7 @@ pub with_more_again : (taken : Option (List ℕ)) (bytes : List ℕ) (i n : ℕ)
 with_more_again None bytes i n = refl
 with_more_again (Some t) bytes i n = rw (take-add i n bytes) (ap Some (append_assoc t (take i bytes) (take n (drop i bytes))))
 
--- the same of a piece of what is left, as a slice of the bytes from a place on
+-- a sink that took so many bytes and then a piece of those behind them took both, the piece as a slice of the bytes from a place on
 pub with_more_behind : (taken : Option (List ℕ)) (bytes : List ℕ) (i n : ℕ)
     → with_more (with_more taken (take i bytes)) (take n (take (length bytes - i) (drop i bytes))) ≡ with_more taken (take (i + n) bytes)
 with_more_behind taken bytes i n = rw take_rest (with_more_again taken bytes i n)
@@ -36,7 +36,7 @@ front_read read left whole n e l = rw (← e, ← l) (take-append_seam read left
 pub all_read : (read left whole : List ℕ) (n : ℕ) → read ++ left ≡ whole → left ≡ [] → length read ≤ n → take n whole ≡ read
 all_read read left whole n e none h = rw (← e, none, append-nil) (take_all n read h)
 
--- the same, where the files are told
+-- one more piece is moved from what is left of a file to what was read, where the files are told
 pub told_again : {F : Type 0} (files before : Option F) (bytes left whole more rest : List ℕ) (n : ℕ) → before ≡ files
     → OnSome files (bytes ++ left ≡ whole) → OnSome before (more ≡ bytes ++ take n left) → OnSome before (rest ≡ drop n left) → OnSome files (more ++ rest ≡ whole)
 told_again None before bytes left whole more rest n e j a d = j

@@ -4,28 +4,28 @@ use Rattle.std.specs.Option.{option_map}
 
 -- this is what a host shows of itself
 pub record HostState : Type 0 where
-  -- its files by the bytes of their names, where it tells them
+  -- the host's files by the bytes of their names, where it tells them
   pub files : Option (List ℕ → Option (List ℕ))
-  -- whether it tells them, and fails only where it opens a name that is not among them
+  -- whether the host tells its files, and fails only where it opens a name that is not among them
   pub is_sound : Bool
-  -- whether a file is open
+  -- whether a file of the host is open
   pub is_open : Bool
-  -- what is left of that file, where the files are told
+  -- what is left of the open file, where the files are told
   pub rest : List ℕ
-  -- how often a call has failed, up to 2^64 - 1
+  -- how often a call of the host has failed, up to 2^64 - 1
   pub faults : ℕ
-  -- how often it was asked to open a file, up to 2^64 - 1
+  -- how often the host was asked to open a file, up to 2^64 - 1
   pub opened : ℕ
-  -- how many bytes its reads have given, up to 2^64 - 1
+  -- how many bytes the host's reads have given, up to 2^64 - 1
   pub given : ℕ
 
 -- this is what a sink shows of itself
 pub record SinkState : Type 0 where
-  -- the bytes taken so far, where it tells them
+  -- the bytes that the sink has taken so far, where it tells them
   pub taken : Option (List ℕ)
-  -- how often a call has failed, up to 2^64 - 1
+  -- how often a call of the sink has failed, up to 2^64 - 1
   pub faults : ℕ
-  -- how often it has wanted for memory, up to 2^64 - 1
+  -- how often the sink has wanted for memory, up to 2^64 - 1
   pub wants : ℕ
 
 -- this is what a count did where it rose: it is greater than before, or it stands at its last value

@@ -50,7 +50,7 @@ use Rattle.mw_isa.proofs.ReadLaws.{access-slots, exec-targets, finished-slots}
 use Rattle.mw_isa.proofs.RowLaws.{limited, registers}
 use Rattle.mw_isa.proofs.SlotLaws.{get-set-other}
 
--- to set a register by name leaves them
+-- a register that is set by name leaves the registers of the system
 part-slot : (regs : Regs) (slot : Slot) (value : ℕ) → system_part (set_slot regs slot value) ≡ system_part regs
 part-slot regs (Gpr n) value = refl
 part-slot regs (CrField n) value = refl
@@ -77,12 +77,12 @@ unfolding accessed
 part-access op at state =
     part-targets (access_targets op.what op (loads op.what op at state) (is_reserved at state.regs.reserve) state.regs.xer) state.regs
 
--- an instruction of the system writes none of them
+-- an instruction of the system writes none of the system's registers
 abbrev keeps_op : SysOp → Bool
 keeps_op (ReadByNumber to spr) = true
 keeps_op op = false
 
--- an outcome writes none of them
+-- an outcome writes none of the system's registers
 abbrev keeps : Outcome → Bool
 keeps (Asked op) = keeps_op op
 keeps outcome = true
@@ -105,7 +105,7 @@ part-written (Memory op) None state e = refl
 part-written (Memory op) (Some (Err fault)) state e = refl
 part-written (Memory op) (Some (Ok at)) state e = part-access op at state
 
--- a trap or what follows, an access or a refusal, what a row of the system asks for or a refusal
+-- a trap, an access, what a row of the system that isn't serializing asks for, and a refusal write none of the system's registers
 keeps-trap : (b : Bool) (cause next : ℕ) → keeps (cond b (Trapped Program cause) (branch_to next)) ≡ true
 keeps-trap true cause next = refl
 keeps-trap false cause next = refl
@@ -153,7 +153,7 @@ pub system-stays : (insn : Insn) (operation : Operation) (o : Operands) (cia : �
 system-stays insn operation o cia outcome placed state at calm e =
     part-written outcome placed state (ap keeps (sym (exec-effect insn operation o cia outcome at e)) ∙ effect-keeps operation insn o cia calm)
 
--- what can't store doesn't
+-- an access that can't store doesn't store
 stores-not : (what : MemWhat) (reserved : Bool) → can_store what ≡ false → stores what reserved ≡ false
 stores-not (Load signed reversed reserve) reserved e = refl
 stores-not (Store reversed) reserved e = cc
@@ -268,7 +268,7 @@ are-accessed Zero to update small is = tt
 are-accessed Clean to update small is = tt
 are-accessed Icbi to update small is = tt
 
--- three that may be there
+-- of three registers that may be there each is one that there is
 are-three : (a b c : Option Slot) → AreSlots (slots_in a) → AreSlots (slots_in b) → AreSlots (slots_in c) → AreSlots (slots_in a ++ slots_in b ++ slots_in c)
 are-three a b c x y z = are-append (slots_in a ++ slots_in b) (slots_in c) (are-append (slots_in a) (slots_in b) x y) z
 
@@ -306,7 +306,7 @@ get-targets [] regs other is are absent = refl
 get-targets (target ∷ targets) regs other is are absent =
     get-targets targets (set_target target regs) other is are.1 absent.1 ∙ get-known target.slot other target.value regs are.0 is absent.0
 
--- the same of lists of registers that are those of targets
+-- a register that isn't in a list of registers that are set stays
 get-of : (targets : List Target) (slots : List Slot) (regs : Regs) (other : Slot) → slots_of targets ≡ slots → IsSlot other → AreSlots slots → IsAbsent other slots → get_slot (set_targets targets regs) other ≡ get_slot regs other
 get-of targets slots regs other e is are absent =
     get-targets targets regs other is (subst AreSlots (sym e) are) (subst (IsAbsent other) (sym e) absent)

@@ -40,11 +40,11 @@ use Rattle.mw_isa.proofs.RowLaws.{limited}
 abbrev pub IsAligned : ℕ → Type 0
 IsAligned at = at % 4 ≡ 0
 
--- so is the one behind it
+-- the address behind one that is a multiple of 4 is a multiple of 4
 behind-aligned : (at : ℕ) → IsAligned at → IsAligned (behind at)
 behind-aligned at a = omega arith
 
--- one of two that are
+-- either of two addresses that are multiples of 4 is one
 either-aligned : (b : Bool) (x y : ℕ) → IsAligned x → IsAligned y → IsAligned (cond b x y)
 either-aligned true x y p q = p
 either-aligned false x y p q = q
@@ -52,14 +52,14 @@ either-aligned false x y p q = q
 behind_insn-aligned : (insn : Insn) (at : ℕ) → IsAligned at → IsAligned (behind_insn insn at)
 behind_insn-aligned insn at a = either-aligned (has_prefix insn.row) (behind (behind at)) (behind at) (behind-aligned (behind at) (behind-aligned at a)) (behind-aligned at a)
 
--- a target by a displacement
+-- the target of a branch by a displacement is a multiple of 4
 target-aligned : (displacement : ℕ) (insn : Insn) (at : ℕ) → IsAligned displacement → IsAligned at → IsAligned (target_of displacement insn at)
 target-aligned displacement insn at d a = either-aligned insn.aa displacement ((at + displacement) % 2 ^ 64) d (omega arith)
 
 word-aligned : (n : ℕ) → IsAligned (word_address n)
 word-aligned n = omega arith
 
--- the goal of a branch
+-- the address that a branch goes to is a multiple of 4
 goal-aligned : (row : BranchRow) (insn : Insn) (o : Operands) (at : ℕ) → AreLimited insn 0 (branch_roles row) → IsAligned at → IsAligned (goal_of row insn o at)
 goal-aligned B insn o at h a = target-aligned (operand_of insn 0) insn at h.0 a
 goal-aligned Bc insn o at h a =
@@ -70,17 +70,17 @@ goal-aligned Bclr insn o at h a = word-aligned o.lr
 goal-aligned Bcctr insn o at h a = word-aligned o.ctr
 goal-aligned Bctar insn o at h a = word-aligned o.tar
 
--- a trap or what follows
+-- behind a trap, or where it doesn't trap, the next address is a multiple of 4
 trap-aligned : (b : Bool) (insn : Insn) (at : ℕ) (regs : Regs) → IsAligned at → IsAligned (next_of insn (cond b (Trapped Program (bit_at trap_place)) (branch_to (behind_insn insn at))) regs at)
 trap-aligned true insn at regs a = a
 trap-aligned false insn at regs a = behind_insn-aligned insn at a
 
--- a refusal or what follows an access
+-- behind a refusal or an access the next address is a multiple of 4
 refused-aligned : (b : Bool) (insn : Insn) (op : MemOp) (at : ℕ) (regs : Regs) → IsAligned at → IsAligned (next_of insn (cond b refusal (Memory op)) regs at)
 refused-aligned true insn op at regs a = a
 refused-aligned false insn op at regs a = behind_insn-aligned insn at a
 
--- what a row of the system asks for
+-- behind what a row of the system asks for the next address is a multiple of 4
 asked-aligned : (what : SystemWhat) (places : Places) (insn : Insn) (o : Operands) (at : ℕ) (regs : Regs) → IsAligned at → IsAligned (next_of insn (system_effect what places insn o at) regs at)
 asked-aligned (Return true) places insn o at regs a = word-aligned regs.hsrr0
 asked-aligned (Return false) places insn o at regs a = word-aligned regs.srr0
@@ -140,7 +140,7 @@ abbrev pub sets_fields : Operation → Bool
 sets_fields Fields = true
 sets_fields operation = false
 
--- three registers that may be there
+-- three registers that may be there are at most three
 few-in : (a b c : Option Slot) → length (slots_in a ++ slots_in b ++ slots_in c) ≤ 3
 few-in None None None = omega arith
 few-in None None (Some c) = omega arith

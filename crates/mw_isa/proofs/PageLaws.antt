@@ -33,7 +33,7 @@ two-stretches page other (Ok x) real at e =
     (x, two.0, refl, two.1, two.2)
 two-stretches page other (Err fault) real at e = cc
 
--- what is said of an address that is there
+-- what is said of an address that may be there is said of the one that is there
 said : (r : Result ℕ StorageFault) (x : ℕ) (P : ℕ → Type 0) → IfOk r P → r ≡ Ok x → P x
 said r x P h e = subst (λ (o : Result ℕ StorageFault). IfOk o P) e h
 
@@ -52,7 +52,7 @@ placed-once real op at wise inside e =
       second = tt;
     })
 
--- an access of two pages stands in two
+-- an access of two pages stands in two stretches
 placed-twice : (real : Page → Result ℕ StorageFault) (op : MemOp) (at : Stretches) → IsPagewise real → is_in_page (first_byte op) op.len ≡ false → stretches_by real (stretch_of (page_of (kind_of op.what) (first_byte op) (left_of (first_byte op))) (real (page_of (kind_of op.what) (first_byte op) (left_of (first_byte op))))) (Some (page_of (kind_of op.what) ((first_byte op + left_of (first_byte op)) % 2 ^ 64) (op.len - left_of (first_byte op)))) ≡ Ok at → IsPlaced op at
 placed-twice real op at wise across e =
     let page = page_of (kind_of op.what) (first_byte op) (left_of (first_byte op)) in
@@ -78,7 +78,7 @@ placed-from true real op at wise inside e =
 placed-from false real op at wise inside e =
     placed-twice real op at wise inside (sym (ap (λ (b : Bool). stretches_of real (cond b (one_page (kind_of op.what) (first_byte op) op.len) (two_pages (kind_of op.what) (first_byte op) op.len))) inside) ∙ e)
 
--- the stretches of an access's pages are as is known of them
+-- the stretches of an access's pages are as `IsPlaced` says
 pub placed-by : (real : Page → Result ℕ StorageFault) (op : MemOp) (at : Stretches) → IsPagewise real → stretches_of real (pages_of op) ≡ Ok at → IsPlaced op at
 placed-by real op at wise e = placed-from (is_in_page (first_byte op) op.len) real op at wise refl e
 
@@ -100,12 +100,12 @@ aligned-inside ea len sized aligned = elim (or_cases (len == 1 || len == 2) (len
   ]
 ]
 
--- so what crosses it is no multiple
+-- an access that crosses the end of a page isn't a multiple of its length
 across-unaligned : (b : Bool) (ea len : ℕ) → ((len == 1 || len == 2) || (len == 4 || len == 8)) ≡ true → is_in_page ea len ≡ false → (ea % len == 0) ≡ b → (ea % len == 0) ≡ false
 across-unaligned true ea len sized across e = absurd (true≢false (sym (aligned-inside ea len sized e) ∙ across))
 across-unaligned false ea len sized across e = e
 
--- of an access that isn't aligned
+-- an access that isn't aligned and raises no alignment interrupt isn't exclusive, and lies in RAM
 plain-by : (exclusive aligned needs ram : Bool) → aligned ≡ false → ((exclusive && not aligned) || (not ram && (not aligned || needs))) ≡ false → (exclusive ≡ false) × (ram ≡ true)
 plain-by false false needs true e calm = (refl, refl)
 plain-by false false needs false e calm = cc
@@ -145,12 +145,12 @@ two-across op at p two = not-true (is_in_page (first_byte op) op.len) (sym p.cro
 pub two-plain : (op : MemOp) (at : Stretches) → IsSized op → IsPlaced op at → is_some at.second ≡ true → raises_alignment op at ≡ false → (is_exclusive op.what ≡ false) × (needs_ram op.what ≡ false) × (is_in_ram at ≡ true)
 two-plain op at sized p two calm = two-plain-by op.what op at sized (two-across op at p two) calm
 
--- there is no second stretch
+-- a second stretch that isn't there is none
 none-of : (second : Option Stretch) → is_some second ≡ false → second ≡ None
 none-of None e = refl
 none-of (Some stretch) e = cc
 
--- whether there is one or not
+-- an access with a byte outside RAM that raises no alignment interrupt has no second stretch
 single-by : (b : Bool) (op : MemOp) (at : Stretches) → IsSized op → IsPlaced op at → raises_alignment op at ≡ false → is_in_ram at ≡ false → is_some at.second ≡ b → is_some at.second ≡ false
 single-by false op at sized p calm outside e = e
 single-by true op at sized p calm outside e = absurd (true≢false (sym (two-plain op at sized p e calm).2 ∙ outside))

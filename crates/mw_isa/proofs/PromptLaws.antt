@@ -42,12 +42,12 @@ chosen-is : (choice : Option Vector) (vector : Vector) → chooses choice vector
 chosen-is None vector e = cc
 chosen-is (Some other) vector e = ap Some (same-vector other vector (eqb-true (address_of other) (address_of vector) e))
 
--- what is there only where a test holds
+-- a test holds where what is there only with it is there
 held-by : (test : Bool) (state after : State) → cond test (Some state) None ≡ Some after → test ≡ true
 held-by true state after e = refl
 held-by false state after e = cc
 
--- where none is chosen
+-- no interrupt is the one that is chosen where none is chosen
 none-chosen : (choice : Option Vector) → IsTrue (not (is_some choice)) → None ≡ choice
 none-chosen None calm = refl
 none-chosen (Some vector) calm = cc
@@ -66,7 +66,7 @@ IsTimely [] state = ⊤
 IsTimely (event ∷ events) state =
     (irq_of event ≡ chosen (brought (cycle_of_event event) state)) × IfSome (applied event state) (IsTimely events)
 
--- one event, and what follows for those behind it
+-- an event is timely, where the events behind it are
 timely-more : (event : Event) (events : List Event) (state last : State) (middle : Option State) → applied event state ≡ middle → IsTrue (is_prompt event (brought (cycle_of_event event) state)) → IfSome middle (IsPrompt events) → option_and_then (replay events) middle ≡ Some last → ((s : State) → IsPrompt events s → replay events s ≡ Some last → IsTimely events s) → (irq_of event ≡ chosen (brought (cycle_of_event event) state)) × IfSome middle (IsTimely events)
 timely-more event events state last None acts here rest ends follows = cc
 timely-more event events state last (Some s) acts here rest ends follows =
@@ -78,7 +78,7 @@ prompt-timely [] state last prompt ends = tt
 prompt-timely (event ∷ events) state last prompt ends =
     timely-more event events state last (applied event state) refl prompt.0 prompt.1 ends (λ s rest on. prompt-timely events s last rest on)
 
--- what events leave that are brought to a stop
+-- events that leave a state at the stop are timely
 replayed-timely : (events : List Event) (state last : State) (stop : ℕ) (middle : Option State) → replay events state ≡ middle → option_map (brought stop) middle ≡ Some last → IsPrompt events state → IsTimely events state
 replayed-timely events state last stop None ends brings prompt = cc
 replayed-timely events state last stop (Some s) ends brings prompt = prompt-timely events state s prompt ends
@@ -89,7 +89,7 @@ unfolding state_after
 runs-timely boot n events end last runs =
     replayed-timely events (start boot) last (stop_of end) (replay events (start boot)) refl runs.replayed runs.prompt
 
--- nothing more is asked behind the last event
+-- no event behind the last one has to be prompt
 none-behind : (state : Option State) → IfSome state (IsPrompt [])
 none-behind None = tt
 none-behind (Some state) = tt
@@ -98,12 +98,12 @@ none-behind (Some state) = tt
 one-prompt : (event : Event) (state : State) → IsTrue (is_prompt event (brought (cycle_of_event event) state)) → IsPrompt (event ∷ []) state
 one-prompt event state here = (here, none-behind (applied event state))
 
--- where events lead to an end, others that agree on the way have what these have
+-- prompt events behind a state that may be there give the prompt events that follow from them
 prompt-follows : (middle : Option State) (events more : List Event) (last : State) → IfSome middle (IsPrompt events) → option_and_then (replay events) middle ≡ Some last → ((s : State) → IsPrompt events s → replay events s ≡ Some last → IsPrompt more s) → IfSome middle (IsPrompt more)
 prompt-follows None events more last rest ends follows = tt
 prompt-follows (Some s) events more last rest ends follows = follows s rest ends
 
--- one more event
+-- prompt events with one more prompt event behind them are prompt
 pub prompt-push : (events : List Event) (event : Event) (first middle : State) → IsPrompt events first → replay events first ≡ Some middle → IsTrue (is_prompt event (brought (cycle_of_event event) middle)) → IsPrompt (events ++ event ∷ []) first
 prompt-push [] event first middle prompt ends here =
     let same : middle ≡ first = ap (λ (o : Option State). unwrap_or o first) (sym ends) in

@@ -76,7 +76,7 @@ effect-calm (System row) insn o cia outcome c e =
     ∙ ap (λ (b : Bool). outcome_raises (cond b refusal (system_effect row.what (places_of (System row)) insn o cia))) (never-refused row.privilege insn o.msr c)
     ∙ system-calm row.what (places_of (System row)) insn o cia
 
--- so no instruction of such a row raises an interrupt by itself
+-- no instruction of a row that can't raise an interrupt by itself does
 pub exec-calm : (insn : Insn) (operation : Operation) (o : Operands) (cia : ℕ) (outcome : Outcome) → slice_get operations insn.row ≡ Some operation → can_raise operation ≡ false → exec_of insn o cia ≡ Some outcome → outcome_raises outcome ≡ None
 unfolding exec_of
 exec-calm insn operation o cia outcome at c e =
@@ -103,7 +103,7 @@ calm-by false false op at e = refl
 calm-access : (op : MemOp) (at : Stretches) → (access_raises op (Ok at)).trap ≡ None → raises_alignment op at ≡ false
 calm-access op at e = calm-by (is_unaligned_exclusive op) (is_misplaced op at) op at e
 
--- so an outcome that raises nothing has an access that can be carried out, if it has one
+-- an outcome that raises nothing has an access that can be carried out, if it has one
 pub end-calm : (outcome : Outcome) (placed : Option Placed) (msr : ℕ) → end_raises outcome placed msr ≡ None → OnPlaced (λ (op : MemOp) (at : Stretches). raises_alignment op at ≡ false) outcome placed
 end-calm (Done targets next) placed msr e = tt
 end-calm (Long op) placed msr e = tt

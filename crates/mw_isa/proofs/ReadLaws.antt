@@ -79,7 +79,7 @@ fields_in-bits mask n bits =
     bits_upon-append (fields_in mask n) (slots_in (slot_if (is_chosen mask n) (CrField n))) bits
     ∙ ap (bits_upon (fields_in mask n)) (bits_upon-one (slot_if (is_chosen mask n) (CrField n)) bits)
 
--- so a set that gets the last of them has the bits of all
+-- a set that gets the last of the fields that a mask chooses, and then the others, has the bits of all
 pub fields_in-back : (mask k n before after : ℕ) (slot : Option Slot) → suc k ≡ n → slot ≡ slot_if (is_chosen mask k) (CrField k) → after ≡ bits_with slot before → bits_upon (fields_in mask k) after ≡ bits_upon (fields_in mask n) before
 fields_in-back mask k n before after slot next is e =
     ap (bits_upon (fields_in mask k)) (e ∙ ap (λ (o : Option Slot). bits_with o before) is)
@@ -91,7 +91,7 @@ pub bits_upon-none : (slots : List Slot) → bits_upon slots 0 ≡ bits_of slots
 bits_upon-none [] = refl
 bits_upon-none (slot ∷ slots) = ap (bits_with (Some slot)) (bits_upon-none slots)
 
--- the bits of the four registers behind them
+-- the bits of XER, LR, CTR and TAR, where they are read
 named_slots-bits : (special : Special) → bits_of (named_slots special) ≡ bits_with (slot_if special.xer Xer) (bits_with (slot_if special.lr Lr) (bits_with (slot_if special.ctr Ctr) (bits_with (slot_if special.tar Tar) 0)))
 named_slots-bits special =
     bits_of-front (slot_if special.xer Xer) (slots_in (slot_if special.lr Lr) ++ (slots_in (slot_if special.ctr Ctr) ++ slots_in (slot_if special.tar Tar)))
@@ -114,14 +114,14 @@ reads_of-known : (insn : Insn) (operation : Operation) → slice_get operations 
 unfolding reads_of
 reads_of-known insn operation e = ap (λ (o : Option Operation). option_map_or (λ known. reads_by known insn) o []) e
 
--- their bits, once the operation and its sources are known
+-- the bits of the registers that are read, once the operation and its sources are known
 pub reads_of-bits : (insn : Insn) (operation : Operation) (sources : Sources) → slice_get operations insn.row ≡ Some operation → sources ≡ sources_at (places_of operation) insn → bits_of (reads_of insn) ≡ bits_with sources.a (bits_with sources.b (bits_with sources.c (bits_of (special_slots (special_of operation insn)))))
 reads_of-bits insn operation sources at are =
     ap bits_of (reads_of-known insn operation at)
     ∙ read_slots-bits (sources_at (places_of operation) insn) (special_slots (special_of operation insn))
     ∙ ap (λ (s : Sources). bits_with s.a (bits_with s.b (bits_with s.c (bits_of (special_slots (special_of operation insn)))))) (sym are)
 
--- so many fields stand in as many digits
+-- so many fields of the condition register stand in as many digits
 pub chosen_digits-lt : (view : Slot → ℕ) (mask n : ℕ) → chosen_digits view mask n < 2 ^ (4 * n)
 chosen_digits-lt view mask zero = omega arith
 chosen_digits-lt view mask (suc n) =
@@ -129,7 +129,7 @@ chosen_digits-lt view mask (suc n) =
     let wide : 2 ^ (4 * suc n) ≡ 2 ^ (4 * n) * 16 = ap (λ (k : ℕ). 2 ^ k) more ∙ pow-add 2 (4 * n) 4 in
     omega (arith, chosen_digits-lt view mask n)
 
--- seven of them leave room for another one
+-- seven fields of the condition register leave room for another one
 pub chosen_digits-room : (view : Slot → ℕ) (mask n : ℕ) → n < 8 → chosen_digits view mask n < 2 ^ 28
 chosen_digits-room view mask n few =
     let few_digits : 4 * n ≤ 28 = omega arith in
@@ -143,12 +143,12 @@ agree-append view other (slot ∷ slots) others agree =
     let rest = agree-append view other slots others agree.1 in
     ((agree.0, rest.0), rest.1)
 
--- so they do on a register that is asked
+-- two views that agree on a register that is asked hold the same there
 part_if-agree : (view other : Slot → ℕ) (asked : Bool) (slot : Slot) → Agree view other (slots_in (slot_if asked slot)) → part_if asked view slot ≡ part_if asked other slot
 part_if-agree view other true slot agree = agree.0
 part_if-agree view other false slot agree = refl
 
--- and on the fields that a mask chooses
+-- two views that agree on the fields that a mask chooses hold the same digits
 chosen_digits-agree : (view other : Slot → ℕ) (mask n : ℕ) → Agree view other (fields_in mask n) → chosen_digits view mask n ≡ chosen_digits other mask n
 chosen_digits-agree view other mask zero agree = refl
 chosen_digits-agree view other mask (suc n) agree =
@@ -204,36 +204,36 @@ ended-slots : (ending : Ending) (places : Places) (insn : Insn) (out : AluOut) (
 ended-slots ending places insn out xer =
     ended-by (register_at insn places.written) out.value (writes_xer ending insn) (writes_field ending insn) (bits_after ending insn out (xer_bits xer))
 
--- a branch's registers: CTR where it falls, LR with LK
+-- the registers that a branch writes: CTR where it falls, LR with LK
 branch-slots : (bo : ℕ) (lk : Bool) (ctr cia : ℕ) (down : Bool) → falls bo ≡ down → slots_of (count_target bo ctr ++ link_target lk cia) ≡ slots_in (slot_if down Ctr) ++ slots_in (slot_if lk Lr)
 branch-slots bo true ctr cia true e = ap (λ (b : Bool). slots_of (cond b (known Ctr (count_of bo ctr) ∷ []) [] ++ link_target true cia)) e
 branch-slots bo false ctr cia true e = ap (λ (b : Bool). slots_of (cond b (known Ctr (count_of bo ctr) ∷ []) [] ++ link_target false cia)) e
 branch-slots bo true ctr cia false e = ap (λ (b : Bool). slots_of (cond b (known Ctr (count_of bo ctr) ∷ []) [] ++ link_target true cia)) e
 branch-slots bo false ctr cia false e = ap (λ (b : Bool). slots_of (cond b (known Ctr (count_of bo ctr) ∷ []) [] ++ link_target false cia)) e
 
--- those of a field that is set or not
+-- a field of the condition register that may be set is written where it is set
 chosen-slots : (b : Bool) (n value : ℕ) → slots_of (cond b (known (CrField n) value ∷ []) []) ≡ slots_in (slot_if b (CrField n))
 chosen-slots true n value = refl
 chosen-slots false n value = refl
 
--- the fields that a mask chooses
+-- the registers of the targets that a mask chooses are the fields that it chooses
 fields-slots : (mask value n : ℕ) → slots_of (field_targets mask value n) ≡ fields_in mask n
 fields-slots mask value zero = refl
 fields-slots mask value (suc n) =
     map-append (λ (target : Target). target.slot) (field_targets mask value n) (cond (is_chosen mask n) (known (CrField n) (cr_field value n) ∷ []) [])
     ∙ ap₂ (λ (xs ys : List Slot). xs ++ ys) (fields-slots mask value n) (chosen-slots (is_chosen mask n) n (cr_field value n))
 
--- a result's register
+-- the register of a result, if it has one
 result-slots : (slot : Option Slot) (value : ℕ) → slots_of (result_at slot value) ≡ slots_in slot
 result-slots None value = refl
 result-slots (Some slot) value = refl
 
--- a trap writes none
+-- a trap writes no register
 trap-slots : (b : Bool) (next : ℕ) → written_slots (cond b (Trapped Program (bit_at trap_place)) (branch_to next)) ≡ []
 trap-slots true next = refl
 trap-slots false next = refl
 
--- an access, that isn't refused, writes its own
+-- an access that isn't refused writes the registers of an access
 access-written : (b : Bool) (op : MemOp) (outcome : Outcome) → cond b refusal (Memory op) ≡ outcome → outcome_raises outcome ≡ None → written_slots outcome ≡ access_slots op.what op.to op.update
 access-written true op outcome is calm =
     let raised : outcome_raises refusal ≡ None = ap outcome_raises is ∙ calm in

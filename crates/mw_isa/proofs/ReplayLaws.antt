@@ -9,7 +9,7 @@ follows : (o : Option State) (f g : State → Option State) (middle last : State
 follows None f g middle last e h = cc
 follows (Some s) f g middle last e h = h s e
 
--- one more event
+-- what events and one more event behind them make of a state
 pub replay-push : (events : List Event) (event : Event) (first middle last : State) → replay events first ≡ Some middle → applied event middle ≡ Some last → replay (events ++ event ∷ []) first ≡ Some last
 replay-push [] event first middle last e a =
     let m : middle ≡ first = ap (λ (o : Option State). unwrap_or o first) (sym e) in

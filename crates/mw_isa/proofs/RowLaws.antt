@@ -52,7 +52,7 @@ fits_by (Some roles) layout = are_as_asked roles (fields_of layout)
 abbrev fits : Operation → Layout → Bool
 fits operation layout = fits_by (roles_by operation) layout
 
--- so it is for each operation and the layout of its row
+-- each layout has the operands that the operation of its row asks for
 abbrev all_fit : List Operation → List Layout → Bool
 all_fit [] [] = true
 all_fit [] (layout ∷ others) = false
@@ -64,7 +64,7 @@ operations-fit : all_fit operations layouts ≡ true
 unfolding operations operation_lines layouts lines
 operations-fit = refl
 
--- what holds of all holds at each place
+-- what holds of all operations and layouts holds at each place
 fits-at : (os : List Operation) (ls : List Layout) (place : ℕ) (o : Operation) (l : Layout) → all_fit os ls ≡ true → slice_get os place ≡ Some o → slice_get ls place ≡ Some l → fits o l ≡ true
 fits-at [] [] place o l all at there = cc
 fits-at [] (layout ∷ others) place o l all at there = cc
@@ -75,7 +75,7 @@ fits-at (operation ∷ os) (layout ∷ ls) zero o l all at there =
     rw (sym a, sym b) (and_parts _ _ all).0
 fits-at (operation ∷ os) (layout ∷ ls) (suc place) o l all at there = fits-at os ls place o l (and_parts _ _ all).1 at there
 
--- an operand in such a field has no more than so many bits
+-- an operand in a field of so many bits that holds it as it is has no more than these bits
 below-in : (bits : ℕ) (f : Field) (z : ℤ) → is_plain_field bits f ≡ true → InRange f z → cast_unsigned w64 z < 2 ^ bits
 below-in bits f z is range =
     let parts = and_parts _ _ is in
@@ -114,7 +114,7 @@ limited-in Free f z is range = tt
 limited-in (Below bits) f z is range = below-in bits f z is range
 limited-in InWords f z is range = words-in f z is range
 
--- so are all operands
+-- all operands are as their fields were asked to be
 operands-in : (roles : List Role) (fs : List Field) (zs : List ℤ) → HasOperands fs zs → are_as_asked roles fs ≡ true → AreOperands roles zs
 operands-in [] [] [] h is = tt
 operands-in [] [] (z ∷ zs) h is = absurd h
@@ -189,7 +189,7 @@ if-there : (o : Option ℕ) (P : ℕ → Type 0) → ((n : ℕ) → o ≡ Some n
 if-there None P h = tt
 if-there (Some n) P h = h n refl
 
--- so there are registers at the places of those roles
+-- there are registers at the places of the roles that are registers
 registers-in : (insn : Insn) (roles : List Role) → AreOperands roles insn.ops.items → HasRegisters insn (places_in roles)
 registers-in insn roles h =
     let at : (test : Role → Bool) → ((role : Role) → test role ≡ true → limit_of role ≡ Below 5) → IfSome (place_in test roles) (IsRegister insn) = λ test five. if-there (place_in test roles) (IsRegister insn) (λ n e. register-in test five roles insn.ops.items n h e) in

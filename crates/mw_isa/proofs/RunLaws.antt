@@ -26,7 +26,7 @@ on-run boot n text events end last Holds spells runs holds =
     has_some (end_of text) end _ spells.end_is (has_some (state_after boot (events_of text) (stop_of end)) last _ after
     (subst (λ (es : List Event). Runs boot n es end last × Holds es end last) (sym spells.events_are) (runs, holds)))
 
--- and what follows from each run that a text spells follows from the text
+-- what follows from each run that a text spells follows from the text
 pub run-spelled : {R : Type 0} (boot : Boot) (n : ℕ) (text : List ℕ) (Holds : List Event → End → State → Type 0) → OnRun boot n text Holds → ((end : End) (last : State) → Spells text (events_of text) end → Runs boot n (events_of text) end last → Holds (events_of text) end last → R) → R
 unfolding OnRun
 run-spelled boot n text Holds spells gives =

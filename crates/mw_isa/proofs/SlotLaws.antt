@@ -48,7 +48,7 @@ above-hidden high low u s some =
     ∙ ap (λ n. n % 16) (mul-add-div_right some (high * s * 16) low)
     ∙ mul-add-mod_self_right (high * s) 16 (low / u)
 
--- so a digit set above another leaves it
+-- a digit set above another leaves the other
 digit-above : (x u v s digit : ℕ) → 0 < u → v ≡ u * (16 * s) → with_digit x v digit / u % 16 ≡ x / u % 16
 digit-above x u v s digit some e =
     let high = x / (v * 16) * 16 + digit in
@@ -58,7 +58,7 @@ digit-above x u v s digit some e =
     ∙ ap (λ n. (x / v * n + x % v) / u % 16) (sym e)
     ∙ ap (λ n. n / u % 16) (div-add-mod' x v)
 
--- a digit set below another leaves it
+-- a digit set below another leaves the other
 digit-below : (x u v s digit : ℕ) → 0 < v → u ≡ v * (16 * s) → digit < 16 → with_digit x v digit / u ≡ x / u
 digit-below x u v s digit some e fits =
     let high = x / (v * 16) * 16 + digit in
@@ -101,7 +101,7 @@ get-set-same regs Lr value all within fits = refl
 get-set-same regs Ctr value all within fits = refl
 get-set-same regs Tar value all within fits = refl
 
--- and every other has its old one
+-- a register that is set leaves every other register
 pub get-set-other : (regs : Regs) (slot other : Slot) (value : ℕ) → IsSlot slot → IsSlot other → other ≢ slot → get_slot (set_slot regs slot value) other ≡ get_slot regs other
 get-set-other regs (Gpr n) (Gpr m) value first second different =
     get_or-set_other regs.gpr n m value 0 (λ e. different (ap Gpr e))
@@ -136,7 +136,7 @@ absent slot (other ∷ others) clear =
 and-first : (k a b : ℕ) → min (bit_at (bit_or (2 ^ k) a) k) (bit_at b k) ≡ 0 → bit_at b k ≡ 0
 and-first k a b clear = omega (arith, bit_at_or (2 ^ k) a k, bit_at-pow_same k)
 
--- and it shares none with that one's rest
+-- a number that shares no bit with two numbers together shares none with the second
 and-rest : (a b c i : ℕ) → min (bit_at (bit_or a b) i) (bit_at c i) ≡ 0 → min (bit_at b i) (bit_at c i) ≡ 0
 and-rest a b c i clear = omega (arith, bit_at_or a b i)
 

@@ -91,7 +91,7 @@ builds-none words state w none =
 pub insn_of-cut : (words : Fetched) → is_cut words ≡ true → insn_of words ≡ None
 insn_of-cut words cut = ap (λ (b : Bool). cond b None (insn_in (decoded_of words))) cut
 
--- others are the instruction that they decode to, if there is one
+-- words that aren't cut off are the instruction that they decode to, if there is one
 pub insn_of-whole : (words : Fetched) (what : Decoded) → is_cut words ≡ false → decoded_of words ≡ what → insn_of words ≡ insn_in what
 insn_of-whole words what whole is = ap₂ (λ (b : Bool) (w : Decoded). cond b None (insn_in w)) whole is
 
@@ -122,14 +122,14 @@ trapped-fetch words state w cut =
     trap-chain words state w
     ∙ ap (λ (b : Bool). option_map (marked (Some words)) (earlier (cond b (Some cut_raised) None) (earlier (words_raise words (get_slot state.regs)) (option_and_then (λ (o : Outcome). end_raises o (under_way state).placed state.regs.msr) (under_way state).outcome)))) cut
 
--- one whose words raise an interrupt traps by its words
+-- a step whose words raise an interrupt traps by its words
 pub trapped-words : (words : Fetched) (raised : Raised) (state : State) → fetched state ≡ Some words → is_cut words ≡ false → words_raise words (get_slot state.regs) ≡ Some raised → (step state).trap ≡ Some (marked (Some words) raised)
 unfolding chain_of
 trapped-words words raised state w whole raises =
     trap-chain words state w
     ∙ ap₂ (λ (b : Bool) (r : Option Raised). option_map (marked (Some words)) (earlier (cond b (Some cut_raised) None) (earlier r (option_and_then (λ (o : Outcome). end_raises o (under_way state).placed state.regs.msr) (under_way state).outcome)))) whole raises
 
--- one that comes to an outcome traps by that, or doesn't
+-- a step that comes to an outcome traps by that, or doesn't trap
 pub trap-known : (words : Fetched) (insn : Insn) (outcome : Outcome) (state : State) → IsKnown words insn outcome state → (step state).trap ≡ option_map (marked (Some words)) (end_raises outcome (placed_of outcome) state.regs.msr)
 unfolding chain_of
 trap-known words insn outcome state k =
@@ -143,7 +143,7 @@ pub after-trapped : (raised : Raised) (state : State) → (step state).trap ≡ 
 unfolding step under_way
 after-trapped raised state e = ap (λ (trap : Option Raised). after_of trap (under_way state) state) e
 
--- one that doesn't leaves what its outcome leaves
+-- a step that doesn't trap leaves what its outcome leaves
 pub after-known : (words : Fetched) (insn : Insn) (outcome : Outcome) (state : State) → IsKnown words insn outcome state → (step state).trap ≡ None → (step state).after ≡ state_behind (Some insn) (Some outcome) (placed_of outcome) state.regs.cia state
 unfolding step
 after-known words insn outcome state k calm =
@@ -165,12 +165,12 @@ unfolding step under_way
 retires-built state b calm =
     both b (both (ap (λ (trap : Option Raised). not (is_some trap)) calm) (both (eq-eqb state.regs.cia state.regs.cia refl) (both (eq-eqb (word_of (fetched state)) (word_of (fetched state)) refl) (same_suffix-refl (suffix_of (fetched state))))))
 
--- and leaves what its step leaves
+-- an instruction that retires leaves what its step leaves
 pub acted-retired : (cycle : ℕ) (state : State) → builds state ≡ true → (step state).trap ≡ None → acted (Retire cycle state.regs.cia (word_of (fetched state)) (suffix_of (fetched state))) state ≡ Some (step state).after
 unfolding acted
 acted-retired cycle state b calm = ap (λ (c : Bool). cond c (Some (step state).after) None) (retires-built state b calm)
 
--- one that raises an interrupt traps to its vector
+-- an instruction that raises an interrupt traps to its vector
 pub acted-trapped : (cycle : ℕ) (raised : Raised) (state : State) → builds state ≡ true → (step state).trap ≡ Some raised → acted (Trapped cycle state.regs.cia raised.vector) state ≡ Some (step state).after
 unfolding acted
 acted-trapped cycle raised state b e =
@@ -196,18 +196,18 @@ loaded-cycle Zero at devices = refl
 loaded-cycle Clean at devices = refl
 loaded-cycle Icbi at devices = refl
 
--- and so does a store
+-- a store leaves the devices' cycle
 stored-cycle : (what : MemWhat) (op : MemOp) (at : Stretches) (reserved : Bool) (devices : DeviceData) → cycle_of (devices_stored what op at reserved devices) ≡ cycle_of devices
 stored-cycle what op at reserved devices = one-cycle (stores what reserved && not (is_in_ram at)) _ devices (cycle_of devices) (cycle-device_store devices _ _) refl
 
--- and an access whole
+-- an access leaves the devices' cycle
 accessed-cycle : (op : MemOp) (at : Stretches) (state : State) → cycle_of (accessed op at state).devices ≡ cycle_of state.devices
 unfolding accessed
 accessed-cycle op at state =
     stored-cycle op.what op at (is_reserved at state.regs.reserve) (devices_loaded op.what at state.devices)
     ∙ loaded-cycle op.what at state.devices
 
--- what is written by number leaves it
+-- a write by number leaves the devices' cycle
 content-cycle : (register : Numbered) (value : ℕ) (devices : DeviceData) → cycle_of (devices_with register value devices) ≡ cycle_of devices
 content-cycle Xer value devices = refl
 content-cycle Lr value devices = refl
@@ -245,7 +245,7 @@ system-cycle (Tlbie scope) state = refl
 system-cycle (Sync l) state = refl
 system-cycle Isync state = refl
 
--- an outcome leaves it
+-- an outcome leaves the devices' cycle
 written-cycle : (outcome : Outcome) (placed : Option Placed) (state : State) → cycle_of (written outcome placed state).devices ≡ cycle_of state.devices
 written-cycle (Done targets next) placed state = refl
 written-cycle (Long op) placed state = refl
@@ -260,7 +260,7 @@ behind-cycle None outcome placed at state = refl
 behind-cycle (Some insn) None placed at state = refl
 behind-cycle (Some insn) (Some outcome) placed at state = written-cycle outcome placed state
 
--- and so does the instruction
+-- an instruction leaves the devices' cycle
 pub after_of-cycle : (trap : Option Raised) (it : UnderWay) (state : State) → cycle_of (after_of trap it state).devices ≡ cycle_of state.devices
 after_of-cycle (Some raised) it state = refl
 after_of-cycle None it state = behind-cycle it.insn it.outcome it.placed it.cia state
@@ -275,6 +275,6 @@ passed_by-cycle : (choice : Option Vector) (state : State) → cycle_of (passed_
 passed_by-cycle None state = step-cycle state
 passed_by-cycle (Some vector) state = refl
 
--- so it does
+-- a cycle leaves the devices at their cycle
 pub passed-cycle : (state : State) → cycle_of (passed state).devices ≡ cycle_of state.devices
 passed-cycle state = passed_by-cycle (chosen state) state

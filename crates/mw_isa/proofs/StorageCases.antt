@@ -20,7 +20,7 @@ op_at what ea len = record { what = what; ea = ea; len = len; value = 0; to = 0;
 across : touches_of (pages_of (op_at (Store false) 0x1FFC 8)) ≡ record { kind = Stores; ea = 0x1FFC } ∷ record { kind = Stores; ea = 0x2000 } ∷ []
 across = refl
 
--- one that ends with a page touches that page alone
+-- a store that ends with a page touches that page alone
 up_to_the_end : touches_of (pages_of (op_at (Store false) 0x1FF8 8)) ≡ record { kind = Stores; ea = 0x1FF8 } ∷ []
 up_to_the_end = refl
 
@@ -32,7 +32,7 @@ around = refl
 zeros : touches_of (pages_of (op_at Zero 0x221 64)) ≡ record { kind = Stores; ea = 0x200 } ∷ []
 zeros = refl
 
--- two stretches of these
+-- two stretches with these addresses and lengths
 two : ℕ → ℕ → ℕ → ℕ → Stretches
 two at len other rest = record { first = record { at = at; len = len }; second = Some (record { at = other; len = rest }) }
 
@@ -45,17 +45,17 @@ placed = refl
 moved : Page → Result ℕ StorageFault
 moved page = if page.ea == 0x2000 then Ok 0x5000 else Ok page.ea
 
--- where pages are elsewhere, so are their stretches
+-- where pages stand elsewhere in real storage, so do their stretches
 apart : stretches_of moved (pages_of (op_at (Store false) 0x1FFD 8)) ≡ Ok (two 0x1FFD 3 0x5000 5)
 unfolding moved two
 apart = refl
 
--- and a store touches each where it stands
+-- a store to two stretches touches each where it stands
 spans : store_deed (two 0x1FFD 3 0x5000 5) ≡ StoreDeed (record { items = record { at = 0x1FFD; len = 3 } ∷ record { at = 0x5000; len = 5 } ∷ [] })
 unfolding two
 spans = refl
 
--- one of which a byte isn't in RAM does nothing to code
+-- a store of which a byte isn't in RAM does nothing to code
 outside : store_deed (two 0x1FFD 3 0x0100_0000 5) ≡ Plain
 unfolding two
 outside = refl
@@ -64,7 +64,7 @@ outside = refl
 missing : Page → Result ℕ StorageFault
 missing page = if page.ea == 0x2000 then Err NoTranslation else Ok page.ea
 
--- it comes with the page that has it, which begins at its first byte there
+-- a fault comes with the page that has it, which begins at the access's first byte there
 fault : stretches_of missing (pages_of (op_at (Load false false false) 0x1FFD 8)) ≡ Err (record { page = record { kind = Loads; ea = 0x2000; len = 5 }; fault = NoTranslation })
 unfolding missing
 fault = refl

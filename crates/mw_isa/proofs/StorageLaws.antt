@@ -26,7 +26,7 @@ sized_operation Hint = true
 sized_operation Call = true
 sized_operation (System row) = true
 
--- so it is of each operation
+-- the length of each operation's access, if it has one, is one of its lengths
 abbrev all_sized : List Operation → Bool
 all_sized [] = true
 all_sized (operation ∷ others) = sized_operation operation && all_sized others
@@ -35,7 +35,7 @@ operations-sized : all_sized operations ≡ true
 unfolding operations operation_lines
 operations-sized = refl
 
--- what holds of all holds at each place
+-- what holds of all operations holds at each place
 sized-at : (list : List Operation) (place : ℕ) (operation : Operation) → all_sized list ≡ true → slice_get list place ≡ Some operation → sized_operation operation ≡ true
 sized-at [] place operation all e = cc
 sized-at (first ∷ others) zero operation all e =
@@ -48,7 +48,7 @@ sized-at (first ∷ others) (suc place) operation all e =
 pub storage-sized : (place : ℕ) (row : StorageRow) → slice_get operations place ≡ Some (Storage row) → is_sized_by row.what row.len ≡ true
 storage-sized place row e = sized-at operations place (Storage row) operations-sized e
 
--- an access that does this leaves what such an access leaves
+-- what an access leaves, told by what it does with the bytes
 pub accessed-what : (what : MemWhat) (op : MemOp) (at : Stretches) (state : State) → op.what ≡ what → accessed op at state ≡ accessed_as what op at state
 unfolding accessed
 accessed-what what op at state e = ap (λ (does : MemWhat). accessed_as does op at state) e

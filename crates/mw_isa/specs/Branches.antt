@@ -17,7 +17,7 @@ count_of bo ctr = if falls bo then (ctr + (2 ^ 64 - 1)) % 2 ^ 64 else ctr
 abbrev pub ctr_permits : ℕ → ℕ → Bool
 ctr_permits bo count = bo_bit bo 2 || (if bo_bit bo 3 then count == 0 else not (count == 0))
 
--- what it asks of the bit: nothing, or that it equals BO1
+-- what BO asks of the bit: nothing, or that it equals BO1
 abbrev pub bit_permits : ℕ → Bool → Bool
 bit_permits bo bit = bo_bit bo 0 || (if bo_bit bo 1 then bit else not bit)
 

@@ -17,12 +17,12 @@ exception_of devices =
     else if dec_stands devices then Some Decrementer
     else None
 
--- the interrupt that is taken, of the devices and MSR alone: none where EE is 0. It is a level and no edge, and is taken as
--- long as its cause stands
+-- the interrupt that is taken, of the devices and MSR alone: none where EE is 0. An exception is a level and no edge, and is
+-- taken as long as its cause stands
 unfoldable pub choice_of : DeviceData → ℕ → Option Vector
 choice_of devices msr = if has_bit msr ee_place then exception_of devices else None
 
--- that of a state whose devices stand at its cycle
+-- the interrupt that is taken, of a state whose devices stand at its cycle
 abbrev pub chosen : State → Option Vector
 chosen state = choice_of state.devices state.regs.msr
 
@@ -30,6 +30,6 @@ chosen state = choice_of state.devices state.regs.msr
 abbrev pub regs_interrupted : Vector → Regs → Regs
 regs_interrupted vector regs = taken vector 0 regs.cia regs
 
--- the state behind it: nothing else of it changes
+-- the state behind an interrupt between two instructions: only its registers change
 abbrev pub interrupted : Vector → State → State
 interrupted vector state = record state { regs = regs_interrupted vector state.regs }

@@ -12,11 +12,11 @@ use Rattle.mw_isa.specs.Slots.{field_unit}
 abbrev pub cr_bit : ℕ → ℕ → Bool
 cr_bit cr number = cr / 2 ^ (31 - number) % 2 == 1
 
--- a field of it, counted from the left of eight
+-- a field of the condition register, counted from the left of eight
 abbrev pub cr_field : ℕ → ℕ → ℕ
 cr_field cr number = cr / field_unit number % 16
 
--- the field of a bit
+-- the field of the condition register in which a bit stands
 abbrev pub field_of_bit : ℕ → ℕ
 field_of_bit number = number / 4
 
@@ -39,7 +39,7 @@ signed_part long n = cast_signed w64 (if long then n else sext_of n 32)
 abbrev pub plain_part : Bool → ℕ → ℕ
 plain_part long n = if long then n else n % 2 ^ 32
 
--- one is less than another, as signed numbers or not, whole or by their low words
+-- a number is less than another, as signed numbers or not, whole or by their low words
 abbrev pub is_below : Bool → Bool → ℕ → ℕ → Bool
 is_below signed long x y = if signed then int_lt (signed_part long x) (signed_part long y) else nat_lt (plain_part long x) (plain_part long y)
 
@@ -101,6 +101,6 @@ traps_equal to long x y = to_bit to 2 && plain_part long x == plain_part long y
 abbrev pub traps_unsigned : ℕ → Bool → ℕ → ℕ → Bool
 traps_unsigned to long x y = (to_bit to 3 && is_below false long x y) || (to_bit to 4 && is_below false long y x)
 
--- one of them holds
+-- one of the conditions of TO holds
 abbrev pub is_trapping : ℕ → Bool → ℕ → ℕ → Bool
 is_trapping to long x y = traps_signed to long x y || (traps_equal to long x y || traps_unsigned to long x y)

@@ -136,7 +136,7 @@ carry_of NoCarry o = false
 carry_of Ca o = (xer_bits o.xer).ca
 carry_of Ov o = (xer_bits o.xer).ov
 
--- the register that gets the result, with it
+-- the register that gets the result, with the result
 abbrev pub result_at : Option Slot → ℕ → List Target
 result_at None value = []
 result_at (Some slot) value = known slot value ∷ []
@@ -158,7 +158,7 @@ end_with slot value xer field bits = result_at slot value ++ xer_target xer bits
 abbrev pub ended_with : Ending → Places → Insn → AluOut → XerBits → List Target
 ended_with ending places insn out bits = end_with (register_at insn places.written) out.value (writes_xer ending insn) (writes_field ending insn) bits
 
--- the same from XER as it is before
+-- what is written at the end of an arithmetic row, from XER as it is before
 abbrev pub ended : Ending → Places → Insn → AluOut → ℕ → List Target
 ended ending places insn out xer = ended_with ending places insn out (bits_after ending insn out (xer_bits xer))
 
@@ -333,12 +333,12 @@ is_privileged Never insn = false
 is_privileged Always insn = true
 is_privileged Heavy insn = operand_of insn 0 == 2
 
--- some instruction of the row is
+-- some instruction of the row is privileged
 abbrev pub is_ever : Privilege → Bool
 is_ever Never = false
 is_ever privilege = true
 
--- it is refused under MSR: in problem state
+-- a privileged instruction is refused under MSR: in problem state
 abbrev pub is_refused : Privilege → Insn → ℕ → Bool
 is_refused privilege insn msr = is_privileged privilege insn && has_bit msr pr_place
 
@@ -421,7 +421,7 @@ abbrev pub is_icbi : MemWhat → Bool
 is_icbi Icbi = true
 is_icbi what = false
 
--- an operation is such a one
+-- an operation is one behind which nothing is begun before it is done
 abbrev pub is_serializing : Operation → Bool
 is_serializing (Storage row) = is_icbi row.what
 is_serializing (System row) = is_serializing_by row.what
@@ -434,7 +434,7 @@ can_store (Conditional reversed) = true
 can_store Zero = true
 can_store what = false
 
--- an operation can
+-- an operation can store
 abbrev pub is_storing : Operation → Bool
 is_storing (Storage row) = can_store row.what
 is_storing operation = false

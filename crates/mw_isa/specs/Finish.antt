@@ -10,11 +10,11 @@ use Rattle.mw_isa.specs.declared.xer.XerBits.{XerBits}
 use Rattle.mw_isa.specs.Execute.{end_with}
 use Rattle.mw_isa.specs.Xer.{with_overflows, with_summary, xer_bits}
 
--- the bits of XER as they stand after it, from those before it: with OE, OV and OV32 are the result's, and SO is set by OV
+-- the bits of XER as they stand after a long operation: with OE, OV and OV32 are the result's, and SO is set by OV
 abbrev pub bits_behind : Bool → AluOut → XerBits → XerBits
 bits_behind oe out bits = with_summary oe out (with_overflows oe out bits)
 
--- what is written at the end, in order: the result, with OE XER, and with Rc CR field 0
+-- what is written at the end of a long operation, in order: the result, with OE XER, and with Rc CR field 0
 abbrev pub finished_by : ℕ → Bool → Bool → AluOut → ℕ → List Target
 finished_by to oe rc out xer = end_with (Some (Gpr to)) out.value oe rc (bits_behind oe out (xer_bits xer))
 

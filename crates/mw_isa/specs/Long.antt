@@ -23,7 +23,7 @@ use Rattle.mw_isa.specs.declared.operation.Addend.TheVariants.{NoAddend, PlainAd
 abbrev pub zero_extended : ℕ → Wide128
 zero_extended n = record { high = 0; low = n }
 
--- the same with its sign above
+-- a number of 64 bits in 128, with its sign above
 abbrev pub sign_extended : ℕ → Wide128
 sign_extended n = record { high = if int_lt (cast_signed w64 n) (pos 0) then 2 ^ 64 - 1 else 0; low = n }
 
@@ -49,14 +49,14 @@ plain_dividend Unsigned64 a = zero_extended a
 plain_dividend Signed32 a = zero_extended (sext_of a 32)
 plain_dividend Unsigned32 a = zero_extended (a % 2 ^ 32)
 
--- the same with as many zeros behind it
+-- the dividend a with as many zeros behind it as it has bits
 abbrev pub extended_dividend : DivKind → ℕ → Wide128
 extended_dividend Signed64 a = record { high = a; low = 0 }
 extended_dividend Unsigned64 a = record { high = a; low = 0 }
 extended_dividend Signed32 a = zero_extended (a % 2 ^ 32 * 2 ^ 32)
 extended_dividend Unsigned32 a = zero_extended (a % 2 ^ 32 * 2 ^ 32)
 
--- the dividend
+-- the dividend: a, or a with zeros behind it
 abbrev pub dividend_by : DivKind → Bool → ℕ → Wide128
 dividend_by kind extended a = if extended then extended_dividend kind a else plain_dividend kind a
 

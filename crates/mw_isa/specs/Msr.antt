@@ -56,19 +56,19 @@ le_place = 63
 abbrev pub prefixed_place : ℕ
 prefixed_place = 34
 
--- that it would cross the end of a block of 64 bytes
+-- the cause that tells that the instruction would cross the end of a block of 64 bytes
 abbrev pub crossing_place : ℕ
 crossing_place = 35
 
--- that it is illegal
+-- the cause that tells that the instruction is illegal
 abbrev pub illegal_place : ℕ
 illegal_place = 44
 
--- that it is privileged
+-- the cause that tells that the instruction is privileged
 abbrev pub privileged_place : ℕ
 privileged_place = 45
 
--- that its trap condition holds
+-- the cause that tells that the instruction's trap condition holds
 abbrev pub trap_place : ℕ
 trap_place = 46
 

@@ -32,7 +32,7 @@ use Rattle.mw_isa.specs.declared.operation.StorageRow.{StorageRow}
 use Rattle.mw_isa.specs.declared.operation.SystemWhat.{SystemWhat}
 use Rattle.mw_isa.specs.declared.operation.SystemWhat.TheVariants.{Return, Isync, Sync, Order, ReadMsr, WriteMsr, Tlbie, ReadSpr, WriteSpr, Random}
 
--- a row: what the unit does, from which operands, with which carry, and what is written beside the result
+-- an arithmetic row: what the unit does, from which operands, with which carry, and what is written beside the result
 abbrev pub alu : AluOp → Inputs → Carry → Ending → Operation
 alu op inputs carry ending = Alu (record { op = op; inputs = inputs; carry = carry; ending = ending })
 
@@ -40,15 +40,15 @@ alu op inputs carry ending = Alu (record { op = op; inputs = inputs; carry = car
 abbrev pub product : MulKind → Inputs → ProductRow
 product kind inputs = record { kind = kind; inputs = inputs; addend = NoAddend; high = false; word = false }
 
--- the same, and something is added
+-- a product row to whose product something is added
 abbrev pub adding : Addend → ProductRow → ProductRow
 adding addend row = record row { addend = addend }
 
--- the same, and the high half is the result
+-- a product row whose result is the high half
 abbrev pub high_half : ProductRow → ProductRow
 high_half row = record row { high = true }
 
--- the same of low words
+-- a product row whose factors are low words
 abbrev pub of_words : ProductRow → ProductRow
 of_words row = record row { word = true }
 
@@ -56,11 +56,11 @@ of_words row = record row { word = true }
 abbrev pub quotient : DivKind → QuotientRow
 quotient kind = record { kind = kind; extended = false; rest = false }
 
--- the same with zeros behind the dividend
+-- a quotient row with zeros behind the dividend
 abbrev pub extending : QuotientRow → QuotientRow
 extending row = record row { extended = true }
 
--- the rest in place of the quotient
+-- a quotient row whose result is the rest
 abbrev pub modulo : DivKind → QuotientRow
 modulo kind = record (quotient kind) { rest = true }
 
@@ -96,19 +96,19 @@ reversed_store = displaced (Store true)
 abbrev pub conditional : ℕ → StorageRow
 conditional = displaced (Conditional false)
 
--- the same at RA|0 and RB
+-- an access at RA|0 and RB
 abbrev pub indexed : StorageRow → StorageRow
 indexed row = record row { address = Indexed }
 
--- the same, and the effective address goes into RA
+-- an access whose effective address goes into RA
 abbrev pub updating : StorageRow → StorageRow
 updating row = record row { update = true }
 
--- the same at RA|0 and a displacement of 34 bits, or at the prefix's own address and the displacement
+-- an access at RA|0 and a displacement of 34 bits, or at the prefix's own address and the displacement
 abbrev pub prefixed : StorageRow → StorageRow
 prefixed row = record row { address = Prefixed }
 
--- the same, privileged
+-- an access that is privileged
 abbrev pub privileged : StorageRow → StorageRow
 privileged row = record row { privilege = Always }
 
@@ -128,7 +128,7 @@ pub record OperationLine : Type 0 where
 abbrev pub on : List ℕ → Operation → OperationLine
 on name operation = record { name = name; operation = operation }
 
--- the rows in the order of the instruction table
+-- what each row does, by its name, in the order of the instruction table
 unfoldable pub operation_lines : List OperationLine
 operation_lines =
     on (codes "addi") (alu Addi BaseNumber NoCarry Plain)
@@ -357,6 +357,6 @@ operation_lines =
     ∷ on (codes "pnop") Hint
     ∷ []
 
--- what each row does, in that order
+-- what each row does, in the order of the instruction table
 unfoldable pub operations : List Operation
 operations = map (λ (line : OperationLine). line.operation) operation_lines

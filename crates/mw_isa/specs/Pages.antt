@@ -33,11 +33,11 @@ page_of kind ea len = record { kind = kind; ea = ea; len = len }
 abbrev pub one_page : Kind → ℕ → ℕ → Pages
 one_page kind ea len = record { first = page_of kind ea len; second = None }
 
--- their two pages; they go on at 0 behind the last address
+-- the two pages of so many bytes from an address on; these go on at 0 behind the last address
 abbrev pub two_pages : Kind → ℕ → ℕ → Pages
 two_pages kind ea len = record { first = page_of kind ea (left_of ea); second = Some (page_of kind ((ea + left_of ea) % 2 ^ 64) (len - left_of ea)) }
 
--- their pages, in rising order of the bytes
+-- the pages of so many bytes from an address on, in rising order of the bytes
 abbrev pub pages_from : Kind → ℕ → ℕ → Pages
 pages_from kind ea len = if is_in_page ea len then one_page kind ea len else two_pages kind ea len
 

@@ -188,7 +188,7 @@ roles_by Hint = None
 roles_by Call = None
 roles_by (System row) = Some (system_roles row.what)
 
--- the roles, each by a test
+-- tests of roles, one for each kind: the first is of a register that is written
 abbrev pub is_written : Role → Bool
 is_written Written = true
 is_written Kept = true
@@ -253,7 +253,7 @@ places_in roles = record {
   own = place_in is_own roles;
 }
 
--- the same where the first operand is the register that an access loads or stores
+-- the places of an access whose first operand is the register that it loads or stores
 abbrev pub with_datum : MemWhat → Places → Places
 with_datum (Load signed reversed reserve) places = record places { written = Some 0 }
 with_datum (Store reversed) places = record places { third = Some 0 }
@@ -325,7 +325,7 @@ IsReady operation insn = IsReadyBy (roles_by operation) insn
 abbrev pub IsRegister : Insn → ℕ → Type 0
 IsRegister insn place = operand_of insn place < 32
 
--- so it is at each place of a register
+-- the operand at each place of a register is the number of one
 pub record HasRegisters (insn : Insn) (places : Places) : Type 0 where
   pub at_written : IfSome places.written (IsRegister insn)
   pub at_first : IfSome places.first (IsRegister insn)

@@ -13,11 +13,11 @@ irq_of (Retire cycle cia word suffix) = None
 irq_of (Trap cycle cia vector) = None
 irq_of (Irq cycle nia vector) = Some vector
 
--- it takes one, or none is chosen on the state before it
+-- an event takes an interrupt between two instructions, or none is chosen on the state before it
 abbrev pub is_prompt : Event → State → Bool
 is_prompt event state = is_some (irq_of event) || not (is_some (chosen state))
 
--- so is each event, on the state before it with the devices brought to its cycle
+-- each event is prompt, on the state before it with the devices brought to its cycle
 abbrev pub IsPrompt : List Event → State → Type 0
 IsPrompt [] state = ⊤
 IsPrompt (event ∷ events) state =

@@ -92,7 +92,7 @@ place_raises op (Ok at) = misaligned_if (is_misplaced op at) op
 abbrev pub untried : MemOp → Fares
 untried op = record { trap = Some (misaligned op.ea); reached = [] }
 
--- one that was, all its pages being reached
+-- an access that was translated, all its pages being reached
 abbrev pub tried : MemOp → Placed → Fares
 tried op placed = record { trap = place_raises op placed; reached = touches_of (pages_of op) }
 

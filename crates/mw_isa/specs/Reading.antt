@@ -32,7 +32,7 @@ lines_from piece (x ∷ xs) = if x == 10 then piece ∷ lines_from [] xs else li
 unfoldable pub lines_of : List ℕ → List (List ℕ)
 lines_of text = lines_from [] text
 
--- the same words
+-- two lists of words are the same
 abbrev pub same_words : List (List ℕ) → List (List ℕ) → Bool
 same_words [] [] = true
 same_words [] (y ∷ ys) = false

@@ -29,7 +29,7 @@ pub record Runs (boot : Boot) (n : ℕ) (events : List Event) (end : End) (last 
   pub stops : StopsBy n end
   -- the cycles of the events rise
   pub rising : IsStrictlyIncreasing (cycles_of events)
-  -- and are below the stop
+  -- the cycles of the events are below the stop
   pub below : All (λ cycle. cycle < stop_of end) (cycles_of events)
   -- the machine replays the events, and the last state is what they leave at the stop
   pub replayed : state_after boot events (stop_of end) ≡ Some last

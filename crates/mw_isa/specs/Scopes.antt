@@ -16,6 +16,6 @@ region_of pid page pages = Region pid (page / pages * pages) pages
 abbrev pub scope_by : ℕ → ℕ → ℕ → Scope
 scope_by is rb pid = if is == 0 then region_of pid (field_of rb 0 51) (pages_by (field_of rb 56 58)) else if is == 1 then Pid pid else All
 
--- those that tlbie gives up, by RIC, RB and RS; RIC 1 reaches none
+-- the kept translations that tlbie gives up, by RIC, RB and RS; RIC 1 reaches none
 abbrev pub scope_of : ℕ → ℕ → ℕ → Scope
 scope_of ric rb rs = if ric == 1 then Nothing else scope_by (field_of rb 52 53) rb (rs / 2 ^ 32)

@@ -44,7 +44,7 @@ abbrev pub AreSlots : List Slot → Type 0
 AreSlots [] = ⊤
 AreSlots (slot ∷ slots) = IsSlot slot × AreSlots slots
 
--- a value that fits it
+-- a value that fits a register, or a field of the condition register
 abbrev pub FitsSlot : Slot → ℕ → Type 0
 FitsSlot (CrField n) value = value < 16
 FitsSlot slot value = ⊤

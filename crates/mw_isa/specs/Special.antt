@@ -28,7 +28,7 @@ abbrev pub fields_in : ℕ → ℕ → List Slot
 fields_in mask zero = []
 fields_in mask (suc n) = fields_in mask n ++ slots_in (slot_if (is_chosen mask n) (CrField n))
 
--- none
+-- nothing is read beside the operands
 abbrev pub nothing : Special
 nothing = record { fields = 0; xer = false; lr = false; ctr = false; tar = false }
 
@@ -53,7 +53,7 @@ abbrev pub bi_of : BranchRow → Insn → ℕ
 bi_of B insn = 0
 bi_of row insn = operand_of insn 1
 
--- the branch goes to the address in LR, in CTR, in TAR
+-- tests of where a branch goes, one for each register: this one is of the address in LR
 abbrev pub goes_to_lr : BranchRow → Bool
 goes_to_lr Bclr = true
 goes_to_lr row = false
@@ -109,11 +109,11 @@ special_of Hint insn = nothing
 special_of Call insn = nothing
 special_of (System row) insn = nothing
 
--- the registers behind the fields
+-- XER, LR, CTR and TAR, where they are read
 abbrev pub named_slots : Special → List Slot
 named_slots special =
     slots_in (slot_if special.xer Xer) ++ (slots_in (slot_if special.lr Lr) ++ (slots_in (slot_if special.ctr Ctr) ++ slots_in (slot_if special.tar Tar)))
 
--- all of them
+-- all registers that are read beside the operands: the fields, and then XER, LR, CTR and TAR
 abbrev pub special_slots : Special → List Slot
 special_slots special = fields_in special.fields 8 ++ named_slots special

@@ -148,7 +148,7 @@ regs_with Prtbl value regs = record regs { prtbl = value }
 regs_with Tar value regs = record regs { tar = value }
 regs_with register value regs = regs
 
--- the devices with it written: the decrementer is among them
+-- the devices with a value written to a register, which only the decrementer takes
 abbrev pub devices_with : Numbered → ℕ → DeviceData → DeviceData
 devices_with Dec value devices = with_dec devices (low_word value)
 devices_with register value devices = devices
@@ -158,11 +158,11 @@ pub record Held : Type 0 where
   pub regs : Regs
   pub devices : DeviceData
 
--- the two together
+-- the registers and the devices together
 abbrev pub held : Regs → DeviceData → Held
 held regs devices = record { regs = regs; devices = devices }
 
--- they with a value written to a register, if there is one
+-- the registers and the devices with a value written to a register, if there is one
 abbrev pub with_content : Option Numbered → ℕ → Regs → DeviceData → Held
 with_content None value regs devices = held regs devices
 with_content (Some register) value regs devices = held (regs_with register value regs) (devices_with register value devices)

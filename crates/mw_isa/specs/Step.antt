@@ -36,17 +36,17 @@ use Rattle.mw_isa.specs.Words.{insn_of}
 
 -- what an instruction carries while it is under way, each part where the one before it is there and raises nothing
 pub record UnderWay : Type 0 where
-  -- its address
+  -- the instruction's address
   pub cia : ℕ
-  -- the real address of its word, or the fault of its fetch
+  -- the real address of the instruction's word, or the fault of its fetch
   pub real : Result ℕ StorageFault
-  -- its words
+  -- the instruction's words
   pub words : Option Fetched
-  -- the instruction that they are
+  -- the instruction that the words are
   pub insn : Option Insn
-  -- what it comes to
+  -- what the instruction comes to
   pub outcome : Option Outcome
-  -- where its access stands
+  -- where the instruction's access stands
   pub placed : Option Placed
 
 -- what an instruction does: what it carries; the interrupt that it raises or none; its accesses in order; its deed; and
@@ -96,7 +96,7 @@ abbrev pub prefix_cause : Option Fetched → ℕ
 prefix_cause None = 0
 prefix_cause (Some words) = if is_prefix words.word then bit_at prefixed_place else 0
 
--- an interrupt with that bit, whatever raised it
+-- an interrupt with the bit of SRR1 that tells of a prefix, whatever raised it
 abbrev pub marked : Option Fetched → Raised → Raised
 marked words raised = record raised { cause = raised.cause + prefix_cause words }
 

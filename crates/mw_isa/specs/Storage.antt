@@ -162,7 +162,7 @@ pub record Found : Type 0 where
   pub number : ℕ
   pub reserved : Bool
 
--- this number, and whether the block is reserved
+-- an access finds this number, and whether the block is reserved
 abbrev pub finding : ℕ → Bool → Found
 finding number reserved = record { number = number; reserved = reserved }
 
@@ -225,5 +225,5 @@ pub record IsPlaced (op : MemOp) (at : Stretches) : Type 0 where
   pub size : size_of at ≡ op.len
   -- there are two where the bytes lie in two pages
   pub crosses : is_some at.second ≡ not (is_in_page (first_byte op) op.len)
-  -- then the first ends with its page, and the second begins one
+  -- where there are two stretches the first ends with its page, and the second begins one
   pub second : IfSome at.second (MeetAtPage at.first)

@@ -39,7 +39,7 @@ msr_behind (WriteMsr value l) regs = if l then msr_partly_from value regs.msr el
 msr_behind (Return hypervisor) regs = msr_from (if hypervisor then regs.hsrr1 else regs.srr1) regs.msr
 msr_behind op regs = regs.msr
 
--- it writes MSR so that addresses are translated
+-- an instruction of the system writes MSR so that addresses are translated
 abbrev pub system_translates : SysOp → Regs → Bool
 system_translates (WriteMsr value l) regs = is_translating (msr_behind (WriteMsr value l) regs)
 system_translates (Return hypervisor) regs = is_translating (msr_behind (Return hypervisor) regs)
@@ -62,7 +62,7 @@ system_held (ReadSpr to spr) regs devices = held (regs_reading to (read_of spr r
 system_held (WriteSpr spr value) regs devices = held_or (write_of spr value regs devices) (held regs devices)
 system_held op regs devices = held (record regs { msr = msr_behind op regs }) devices
 
--- the state behind it, at the same instruction
+-- the state behind an instruction of the system, at the same instruction
 abbrev pub system_done : SysOp → State → State
 system_done op state = record state { regs = (system_held op state.regs state.devices).regs; devices = (system_held op state.regs state.devices).devices }
 
@@ -100,6 +100,6 @@ pub record SystemPart : Type 0 where
   pub hsprg : List ℕ
   pub prtbl : ℕ
 
--- they of all registers
+-- the part of all registers that aren't read and written by name
 abbrev pub system_part : Regs → SystemPart
 system_part regs = record { msr = regs.msr; srr0 = regs.srr0; srr1 = regs.srr1; hsrr0 = regs.hsrr0; hsrr1 = regs.hsrr1; dar = regs.dar; dsisr = regs.dsisr; pidr = regs.pidr; sprg = regs.sprg; hsprg = regs.hsprg; prtbl = regs.prtbl }

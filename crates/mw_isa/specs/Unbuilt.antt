@@ -20,11 +20,11 @@ passed_by None state = (step state).after
 abbrev pub passed : State → State
 passed state = passed_by (chosen state) state
 
--- the first one among so many cycles from a cycle on: its cycle and its address
+-- the first instruction that isn't built among so many cycles from a cycle on: its cycle and its address
 abbrev pub unbuilt_from : ℕ → ℕ → State → Option (ℕ × ℕ)
 unbuilt_from zero cycle state = None
 unbuilt_from (suc left) cycle state = if passes (brought cycle state) then unbuilt_from left (cycle + 1) (passed (brought cycle state)) else Some (cycle, state.regs.cia)
 
--- the first one below a cycle, from the start of a boot
+-- the first instruction that isn't built below a cycle, from the start of a boot: its cycle and its address
 unfoldable pub first_unbuilt : Boot → ℕ → Option (ℕ × ℕ)
 first_unbuilt boot n = unbuilt_from n 0 (start boot)

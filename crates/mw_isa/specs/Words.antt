@@ -32,7 +32,7 @@ insn_of words = if is_cut words then None else insn_in (decoded_of words)
 abbrev pub alignment_sources : ℕ → Option ℕ → Sources
 alignment_sources ra rb = record { a = if ra == 0 then None else Some (Gpr ra); b = option_map Gpr rb; c = None }
 
--- the address of such a move: (RA|0) + (RB) + the displacement
+-- the address of a move of several words or of a string: (RA|0) + (RB) + the displacement
 abbrev pub alignment_address : ℕ → Option ℕ → ℤ → (Slot → ℕ) → ℕ
 alignment_address ra rb disp view = wrapped_sum (wrapped_sum (held view (alignment_sources ra rb).a) (held view (alignment_sources ra rb).b)) (cast_unsigned w64 disp)
 

@@ -50,7 +50,7 @@ xer_of bits = bit_at_place so_place bits.so + bit_at_place ov_place bits.ov + bi
 abbrev pub with_carries : Bool → AluOut → XerBits → XerBits
 with_carries written out bits = if written then record bits { ca = out.ca; ca32 = out.ca32 } else bits
 
--- the bits with its overflows, where they are written
+-- the bits with a result's overflows, where they are written
 abbrev pub with_overflows : Bool → AluOut → XerBits → XerBits
 with_overflows written out bits = if written then record bits { ov = out.ov; ov32 = out.ov32 } else bits
 

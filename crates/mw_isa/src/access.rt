@@ -15,20 +15,20 @@ pub enum Kind {
 /// An access to one page of storage.
 #[derive(Clone, Copy, Debug, PartialEq, Eq)]
 pub struct Touch {
-    /// What it is for.
+    /// What the access is for.
     pub kind: Kind,
-    /// The effective address of its first byte in the page.
+    /// The effective address of the access's first byte in the page.
     pub ea: u64,
 }
 
 /// What an instruction does to changed code and changed translations.
 #[derive(Debug, Drop)]
 pub enum Deed {
-    /// Nothing.
+    /// Nothing is done to code and translations.
     Plain,
     /// Bytes of RAM are stored to.
     Store {
-        /// Which ones, in the order of the access, a stretch a page.
+        /// The stretches of these bytes, in the order of the access, a stretch a page.
         spans: ArrayVec<Span, 2>,
     },
     /// The copy of a block among the instructions is given up.
@@ -49,6 +49,6 @@ pub enum Deed {
 pub struct Span {
     /// The first byte's real address.
     pub at: u32,
-    /// How many bytes.
+    /// How many bytes the stretch has.
     pub len: u32,
 }

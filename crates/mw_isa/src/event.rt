@@ -10,7 +10,7 @@ pub enum Event {
         cycle: u64,
         /// The instruction's address.
         cia: u64,
-        /// Its word, the prefix where it has one.
+        /// The instruction's word, the prefix where it has one.
         word: u32,
         /// The word behind a prefix.
         suffix: Option<u32>,
@@ -38,9 +38,9 @@ pub enum Event {
 /// How a run ends.
 #[derive(Clone, Copy, Debug, PartialEq, Eq)]
 pub enum End {
-    /// It reached the number of cycles that was asked for.
+    /// The run reached the number of cycles that was asked for.
     Ran {
-        /// That number.
+        /// The number of cycles that was asked for.
         cycle: u64,
     },
 }

@@ -1,7 +1,7 @@
 /// What an access to storage does with the bytes there.
 #[derive(Clone, Copy, Debug, PartialEq, Eq)]
 pub enum MemWhat {
-    /// They are loaded into a register.
+    /// The bytes are loaded into a register.
     Load {
         /// Whether the number is extended with its sign.
         signed: bool,
@@ -10,12 +10,12 @@ pub enum MemWhat {
         /// Whether the block is reserved.
         reserve: bool,
     },
-    /// A register is stored over them.
+    /// A register is stored over the bytes.
     Store {
         /// Whether the first byte is the most significant one.
         reversed: bool,
     },
-    /// A register is stored over them where their block is reserved.
+    /// A register is stored over the bytes where their block is reserved.
     Conditional {
         /// Whether the first byte is the most significant one.
         reversed: bool,
@@ -31,7 +31,7 @@ pub enum MemWhat {
 /// An access to storage, with all that it takes of the registers.
 #[derive(Clone, Copy, Debug, PartialEq, Eq)]
 pub struct MemOp {
-    /// What it does.
+    /// What the access does.
     pub what: MemWhat,
     /// The effective address.
     pub ea: u64,

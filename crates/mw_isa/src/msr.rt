@@ -20,11 +20,11 @@ pub const RI: u32 = 62;
 pub const PREFIXED: u32 = 34;
 /// The place of the cause that the instruction would cross the end of a block of 64 bytes.
 pub const CROSSING: u32 = 35;
-/// The place of the cause that it is illegal.
+/// The place of the cause that the instruction is illegal.
 pub const ILLEGAL: u32 = 44;
-/// The place of the cause that it is privileged.
+/// The place of the cause that the instruction is privileged.
 pub const PRIVILEGED: u32 = 45;
-/// The place of the cause that its trap condition holds.
+/// The place of the cause that the instruction's trap condition holds.
 pub const TRAP: u32 = 46;
 
 /// A number with the bit at a place alone, counted from the left of 64. It can't fail.

@@ -46,9 +46,9 @@ pub enum Numbered {
 /// How an instruction uses a register that it moves by number.
 #[derive(Clone, Copy, Debug, PartialEq, Eq)]
 pub enum Use {
-    /// It reads it (mfspr, mftb).
+    /// The instruction reads the register (mfspr, mftb).
     Read,
-    /// It writes it (mtspr).
+    /// The instruction writes the register (mtspr).
     Write,
 }
 
@@ -66,10 +66,10 @@ pub enum SprRefusal {
 pub struct NumberedLine {
     /// The number, below 1024.
     pub number: u16,
-    /// The register that it stands for.
+    /// The register that the number stands for.
     pub register: Numbered,
-    /// Whether it can be read.
+    /// Whether the register can be read.
     pub readable: bool,
-    /// Whether it can be written.
+    /// Whether the register can be written.
     pub writable: bool,
 }

@@ -31,7 +31,7 @@ pub enum Operation {
     Hint,
     /// A system call.
     Call,
-    /// One of the system.
+    /// An instruction of the system.
     System(SystemRow),
 }
 
@@ -39,11 +39,11 @@ pub enum Operation {
 /// instructions).
 #[derive(Clone, Copy, Debug, PartialEq, Eq)]
 pub enum Privilege {
-    /// Nowhere.
+    /// The row is never privileged.
     Never,
-    /// Everywhere.
+    /// The row is always privileged.
     Always,
-    /// Where L is 2 (ptesync among the forms of sync).
+    /// The row is privileged where L is 2 (ptesync among the forms of sync).
     Heavy,
 }
 
@@ -106,7 +106,7 @@ pub enum Inputs {
 /// The carry that a unit takes.
 #[derive(Clone, Copy, Debug, PartialEq, Eq)]
 pub enum Carry {
-    /// None.
+    /// The unit takes no carry.
     NoCarry,
     /// CA.
     Ca,
@@ -117,7 +117,7 @@ pub enum Carry {
 /// What an arithmetic row writes beside its result, whatever OE and Rc ask for.
 #[derive(Clone, Copy, Debug, PartialEq, Eq)]
 pub enum Ending {
-    /// Nothing.
+    /// Nothing is written beside the result.
     Plain,
     /// CA and CA32.
     Carries,
@@ -134,7 +134,7 @@ pub enum Ending {
 pub struct ProductRow {
     /// How the factors are read.
     pub kind: MulKind,
-    /// Its operand list: a and b are the factors.
+    /// The operand list of the row: a and b are the factors.
     pub inputs: Inputs,
     /// What is added to the product.
     pub addend: Addend,
@@ -147,7 +147,7 @@ pub struct ProductRow {
 /// What a row adds to its product.
 #[derive(Clone, Copy, Debug, PartialEq, Eq)]
 pub enum Addend {
-    /// Nothing.
+    /// Nothing is added.
     NoAddend,
     /// c.
     PlainAddend,
@@ -210,21 +210,21 @@ pub enum FieldRow {
 /// What a row makes of two bits of the condition register.
 #[derive(Clone, Copy, Debug, PartialEq, Eq)]
 pub enum BitLogic {
-    /// Neither.
+    /// Neither bit is 1.
     Crnor,
-    /// The first and not the second.
+    /// The first bit is 1, and the second 0.
     Crandc,
-    /// One alone.
+    /// One bit alone is 1.
     Crxor,
-    /// Not both.
+    /// Not both bits are 1.
     Crnand,
-    /// Both.
+    /// Both bits are 1.
     Crand,
-    /// Both or neither.
+    /// Both bits are 1, or neither.
     Creqv,
-    /// The first, or not the second.
+    /// The first bit is 1, or the second 0.
     Crorc,
-    /// One or both.
+    /// One bit is 1, or both.
     Cror,
 }
 
@@ -280,7 +280,7 @@ pub enum Address {
 /// A row of the system (Book II, synchronization; Book III, interrupts, registers by number, translation).
 #[derive(Clone, Copy, Debug, PartialEq, Eq)]
 pub struct SystemRow {
-    /// What it does.
+    /// What the row does.
     pub what: SystemWhat,
     /// Where it is privileged.
     pub privilege: Privilege,
@@ -289,12 +289,12 @@ pub struct SystemRow {
 /// What a row of the system does.
 #[derive(Clone, Copy, Debug, PartialEq, Eq)]
 pub enum SystemWhat {
-    /// It returns from an interrupt.
+    /// The instruction returns from an interrupt.
     Return {
-        /// By HSRR0 and HSRR1, and not by SRR0 and SRR1.
+        /// Whether it returns by HSRR0 and HSRR1, and not by SRR0 and SRR1.
         hypervisor: bool,
     },
-    /// What is behind it is fetched anew.
+    /// What is behind the instruction is fetched anew.
     Isync,
     /// L: accesses are ordered, and with L 2 what was told of translations is done.
     Sync,
@@ -302,7 +302,7 @@ pub enum SystemWhat {
     Order,
     /// RT: the machine state register is read.
     ReadMsr,
-    /// RS,L: it is written, with L 1 a part of it.
+    /// RS,L: the machine state register is written, with L 1 a part of it.
     WriteMsr,
     /// RB,RS,RIC,PRS,R: kept translations are given up.
     Tlbie,
@@ -318,7 +318,7 @@ pub enum SystemWhat {
 /// management and atomic update).
 #[derive(Clone, Copy, Debug, PartialEq, Eq)]
 pub struct StorageRow {
-    /// What it does with the bytes.
+    /// What the row does with the bytes.
     pub what: MemWhat,
     /// How many bytes it accesses.
     pub len: u8,

@@ -10,7 +10,7 @@ use arrayvec::ArrayVec;
 pub struct Target {
     /// The register.
     pub slot: Slot,
-    /// Its value.
+    /// The register's value, once it is known.
     pub value: Option<u64>,
 }
 
@@ -40,22 +40,22 @@ pub struct Operands {
 /// What an instruction comes to.
 #[derive(Drop)]
 pub enum Outcome {
-    /// It is done in one turn.
+    /// The instruction is done in one turn.
     Done {
-        /// The registers that it writes.
+        /// The registers that the instruction writes.
         targets: ArrayVec<Target, 8>,
         /// The address of the next instruction.
         next: u64,
     },
-    /// It takes several ticks of a unit.
+    /// The instruction takes several ticks of a unit.
     Long(LongOp),
-    /// It accesses storage.
+    /// The instruction accesses storage.
     Memory(MemOp),
-    /// It is one of the system's.
+    /// The instruction is one of the system's.
     System(SysOp),
-    /// It raises an interrupt.
+    /// The instruction raises an interrupt.
     Trap {
-        /// Which.
+        /// The vector of the interrupt.
         vector: Vector,
         /// The bits of SRR1 that tell why, at their places; not the one that tells of a prefix.
         cause: u64,

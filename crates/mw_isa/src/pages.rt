@@ -7,7 +7,7 @@ pub struct Page {
     pub kind: Kind,
     /// The effective address of its first byte in the page.
     pub ea: u64,
-    /// How many of its bytes lie there.
+    /// How many of the access's bytes lie in the page.
     pub len: u8,
 }
 
@@ -16,22 +16,22 @@ pub struct Page {
 pub struct Pages {
     /// The page of the first byte.
     pub first: Page,
-    /// The page behind it, if bytes lie there.
+    /// The page behind the first one, if bytes lie there.
     pub second: Option<Page>,
 }
 
 /// What is wrong with a page that an access goes to (Book III, address translation).
 #[derive(Clone, Copy, Debug, PartialEq, Eq)]
 pub enum StorageFault {
-    /// Its address belongs to no tree of translations.
+    /// The page's address belongs to no tree of translations.
     Segment,
-    /// Its tree has no entry for it.
+    /// The page's tree has no entry for it.
     NoTranslation,
-    /// Its entry doesn't permit the access.
+    /// The page's entry doesn't permit the access.
     NotPermitted,
-    /// Its tree isn't formed as it has to be.
+    /// The page's tree isn't formed as it has to be.
     BadTree,
-    /// Its entry wasn't marked as referenced, or for a store as changed.
+    /// The page's entry wasn't marked as referenced, or for a store as changed.
     ReferenceOrChange,
 }
 
@@ -40,16 +40,16 @@ pub enum StorageFault {
 pub struct PageFault {
     /// The page.
     pub page: Page,
-    /// What is wrong with it.
+    /// What is wrong with the page.
     pub fault: StorageFault,
 }
 
 /// A stretch of real storage.
 #[derive(Clone, Copy, Debug, PartialEq, Eq)]
 pub struct Stretch {
-    /// The real address of its first byte.
+    /// The real address of the stretch's first byte.
     pub at: u64,
-    /// How many bytes it has.
+    /// How many bytes the stretch has.
     pub len: u8,
 }
 

@@ -90,7 +90,7 @@ fn access_places(address: Address, what: MemWhat) -> Places
     }
 }
 
-/// The same with the register at place 0, which is written by a load and read as c by a store.
+/// The places with the register at place 0, which is written by a load and read as c by a store.
 #[inline(always)]
 fn with_datum(what: MemWhat, places: Places) -> Places
     ensures { result ≡ with_datum what places }

@@ -3,7 +3,7 @@ use crate::vector::Vector;
 /// An interrupt that an instruction raises (Book III, interrupt definitions).
 #[derive(Clone, Copy, Debug, PartialEq, Eq)]
 pub struct Raised {
-    /// Which.
+    /// The vector of the interrupt.
     pub vector: Vector,
     /// The bits of SRR1 that tell why, at their places.
     pub cause: u64,

@@ -73,7 +73,7 @@ fn alignment_sources(ra: u8, rb: Option<u8>) -> Sources
     }
 }
 
-/// The address of such a move, where registers are seen so. It wraps at 2^64.
+/// The address of a move of several words or of a string, where registers are seen so. It wraps at 2^64.
 fn alignment_address<V: SlotView>(ra: u8, rb: Option<u8>, disp: i64, view: &V) -> u64
     ensures { result ≡ alignment_address ra rb disp (V.view view.now) }
 {

@@ -125,7 +125,7 @@ fn chosen_digits<V: SlotView>(view: &V, mask: u8) -> u32
     cr
 }
 
-/// The same; without a look at the fields where the mask chooses none.
+/// The fields of the condition register that a mask chooses, without a look where it chooses none.
 fn seen_fields<V: SlotView>(view: &V, mask: u8) -> u32
     ensures { result ≡ chosen_digits (V.view view.now) mask 8 }
 {

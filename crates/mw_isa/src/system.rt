@@ -14,24 +14,24 @@ pub enum SysOp {
     WriteSpr {
         /// The number.
         spr: u16,
-        /// What it gets.
+        /// What the register gets.
         value: u64,
     },
     /// The machine state register is written.
     WriteMsr {
         /// The source.
         value: u64,
-        /// L: EE and RI alone.
+        /// L: whether EE and RI alone are written.
         l: bool,
     },
-    /// It returns from an interrupt.
+    /// The instruction returns from an interrupt.
     Return {
-        /// By HSRR0 and HSRR1, and not by SRR0 and SRR1.
+        /// Whether it returns by HSRR0 and HSRR1, and not by SRR0 and SRR1.
         hypervisor: bool,
     },
     /// Kept translations are given up.
     Tlbie {
-        /// Which.
+        /// The kept translations that are given up.
         scope: Scope,
     },
     /// Accesses are ordered.
@@ -39,6 +39,6 @@ pub enum SysOp {
         /// L: with 2 what was told of translations is done too.
         l: u8,
     },
-    /// What is behind it is fetched anew.
+    /// What is behind the instruction is fetched anew.
     Isync,
 }

@@ -9,7 +9,7 @@ use Rattle.mw_isa.specs.declared.pages.Stretches.{Stretches}
 use Rattle.mw_isa.specs.Pages.{laid_by, laid_in}
 use Rattle.mw_loadstore.specs.Pieces.{room_of, pieces_from, pieces_by, pieces_in}
 
--- bytes that are laid in two pieces side by side
+-- bytes that are laid in two pieces side by side are laid whole
 two-laid : (ram : List ℕ) (at front : ℕ) (bytes : List ℕ) → at + length bytes < 2 ^ 60 → front ≤ length bytes → laid (laid ram at (take front bytes)) (at + front) (drop front bytes) ≡ laid ram at bytes
 two-laid ram at front bytes below part =
     let low : at < 2 ^ 60 = omega arith in
@@ -17,7 +17,7 @@ two-laid ram at front bytes below part =
     let place : (at + length (take front bytes)) % 2 ^ 60 ≡ at + front = ap (λ (n : ℕ). (at + n) % 2 ^ 60) sized ∙ omega arith in
     sym (ap (laid ram at) (sym (take-append-drop front bytes)) ∙ laid-append ram at (take front bytes) (drop front bytes) low ∙ ap (λ (n : ℕ). laid (laid ram at (take front bytes)) n (drop front bytes)) place)
 
--- a stretch by pieces
+-- bytes that are laid in the pieces of a stretch are laid in the stretch
 one-laid : (b : Bool) (ram : List ℕ) (first : Stretch) (bytes : List ℕ) → (first.at + length bytes < 2 ^ 60) → (length bytes ≡ first.len) → (b ≡ false → room_of first.at ≤ first.len) → laid_in ram (cond b (record { first = first; second = None }) (record { first = record { at = first.at; len = room_of first.at }; second = Some (record { at = first.at + room_of first.at; len = first.len - room_of first.at }) })) bytes ≡ laid ram first.at bytes
 one-laid true ram first bytes below sized room = refl
 one-laid false ram first bytes below sized room = two-laid ram first.at (room_of first.at) bytes below (omega (arith, room refl))

@@ -11,7 +11,7 @@ use Rattle.mw_loadstore.specs.declared.access.Piece.{Piece}
 use Rattle.mw_bus.specs.Memory.{padded}
 use Rattle.mw_loadstore.specs.Pieces.{IsInOneBlock, addresses_from, piece_addresses, piece_len, pieces_of, room_of}
 
--- one address more
+-- an access of one byte more has one address more
 pub addresses_from-more : (ea n : ℕ) → addresses_from ea (n + 1) ≡ addresses_from ea n ++ (ea + n) % 2 ^ 64 ∷ []
 unfolding addresses_from
 addresses_from-more ea n = map-range_with_len_more (λ (i : ℕ). (ea + i) % 2 ^ 64) 0 n n (omega arith)
@@ -42,7 +42,7 @@ pub pieces_of-whole : (ea len : ℕ) → ea % 64 + len ≤ 64 → pieces_of ea l
 unfolding pieces_of
 pieces_of-whole ea len within = grind (arith, nat_tests)
 
--- and another is two
+-- an access that crosses the end of a block is two pieces
 pub pieces_of-cut : (ea len : ℕ) → 64 < ea % 64 + len → pieces_of ea len ≡ record { ea = ea; len = room_of ea } ∷ record { ea = (ea + room_of ea) % 2 ^ 64; len = len - room_of ea } ∷ []
 unfolding pieces_of
 pieces_of-cut ea len across = grind (arith, nat_tests)
@@ -65,13 +65,13 @@ pieces_of-sum ea len = elim (cases_lt 64 (ea % 64 + len)) [
       ap (sum_by piece_len) (pieces_of-whole ea len within) ∙ e
 ]
 
--- the addresses of two parts of an access are its own
+-- the addresses of two parts of an access are the access's own
 pub addresses_from-cut : (ea room len : ℕ) → room ≤ len → addresses_from ea room ++ addresses_from ((ea + room) % 2 ^ 64) (len - room) ≡ addresses_from ea len
 addresses_from-cut ea room len enough =
     let e : room + (len - room) ≡ len = omega arith in
     sym (addresses_from-append ea room (len - room)) ∙ ap (addresses_from ea) e
 
--- their addresses, one after another, are the access's
+-- the addresses of an access's pieces, one after another, are the access's
 pub pieces_of-joined : (ea len : ℕ) → flat_map piece_addresses (pieces_of ea len) ≡ addresses_from ea len
 pieces_of-joined ea len = elim (cases_lt 64 (ea % 64 + len)) [
   | inl across ↦
@@ -82,11 +82,11 @@ pieces_of-joined ea len = elim (cases_lt 64 (ea % 64 + len)) [
       ap (flat_map piece_addresses) (pieces_of-whole ea len within) ∙ append-nil (addresses_from ea len)
 ]
 
--- no piece breaks a fact where there is none
+-- no pieces are all in one block
 none : All IsInOneBlock []
 none k d h = absurd (omega arith)
 
--- each has a byte or more, in one block
+-- each piece of an access has a byte or more, in one block
 pub pieces_of-each : (ea len : ℕ) → 1 ≤ len → len ≤ 64 → All IsInOneBlock (pieces_of ea len)
 pieces_of-each ea len some few = elim (cases_lt 64 (ea % 64 + len)) [
   | inl across ↦
@@ -107,7 +107,7 @@ pieces_of-short ea len = elim (cases_lt 64 (ea % 64 + len)) [
       subst (All (λ (piece : Piece). piece.len ≤ len)) (sym (pieces_of-whole ea len within)) (All-cons (λ (piece : Piece). piece.len ≤ len) _ [] (omega arith) (λ k d h. absurd (omega arith)))
 ]
 
--- there are two at most
+-- an access has at most two pieces
 pub pieces_of-few : (ea len : ℕ) → length (pieces_of ea len) ≤ 2
 pieces_of-few ea len = elim (cases_lt 64 (ea % 64 + len)) [
   | inl across ↦ omega (arith, ap length (pieces_of-cut ea len across))

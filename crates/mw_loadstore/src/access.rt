@@ -8,9 +8,9 @@ use arrayvec::ArrayVec;
 /// A part of an access that lies in one block of 64 bytes.
 #[derive(Clone, Copy, Debug, Default, PartialEq, Eq)]
 pub struct Piece {
-    /// The effective address of its first byte.
+    /// The effective address of the piece's first byte.
     pub ea: u64,
-    /// How many bytes it has.
+    /// How many bytes the piece has.
     pub len: u8,
 }
 

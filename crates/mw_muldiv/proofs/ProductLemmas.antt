@@ -30,7 +30,7 @@ factor-fits : (kind : MulKind) (n : ℕ) → n < 2 ^ 64 → FitsSigned w128 (fac
 factor-fits Signed n below = sfits_widen {w = w64} {w' = w128} tt (sfits_to_z {w = w64} {n = n} (record { fits = below }))
 factor-fits Unsigned n below = fits_signed_from_abs w128 (pos n) (omega arith)
 
--- what is left modulo 2^128 is below it
+-- what is left of a number modulo 2^128 is below 2^128
 wrapped-lt : (z : ℤ) → wrapped_of z < 2 ^ 128
 wrapped-lt (pos n) = mod-lt n (pow_pos 128)
 wrapped-lt (negsuc n) = omega arith
@@ -79,7 +79,7 @@ abbrev pub multiplied : Inside → ℕ → ℕ → Inside
 multiplied m first piece =
     record m { ticks = m.ticks + 1; total = (m.total + first * piece % 2 ^ 128 * 2 ^ (16 * m.ticks) % 2 ^ 128) % 2 ^ 128 }
 
--- it is as far as its ticks say again
+-- a multiplication that is as far as its ticks say is so with a tick more
 pub multiplied_more : (m : Inside) (first piece : ℕ) → m.ticks < 4 → InRegisters m → first ≡ extended m.kind m.a → piece ≡ piece_of m.kind m.b m.ticks → IsMultiplied m → IsMultiplied (multiplied m first piece)
 multiplied_more m first piece under known is_first is_piece before =
     let low = extended m.kind m.b % 2 ^ taken_of m.ticks in
@@ -108,7 +108,7 @@ answered-at (suc (suc zero)) total product under all = refl
 answered-at (suc (suc (suc zero))) total product under all = ap (λ (w : Wide128). Some w) (all refl)
 answered-at (suc (suc (suc (suc ticks)))) total product under all = absurd (omega arith)
 
--- it is the product then
+-- what the code answers with a tick more is what the definition says
 pub answered-is : (m : Inside) (first piece : ℕ) → m.ticks < 4 → InRegisters m → IsMultiplied (multiplied m first piece) → answered (m.ticks + 1) (multiplied m first piece).total ≡ product_at (multiplication_of m)
 answered-is m first piece under known after =
     let next = multiplied m first piece in

@@ -62,7 +62,7 @@ taken-above p divisor above = grind (arith, nat_tests)
 abbrev pub stepped : Inside → Partial → Inside
 stepped d next = record d { ticks = d.ticks + 1; so_far = next }
 
--- where the rest is below the divisor it is as far as its ticks say again
+-- a division whose rest is below the divisor is as far as its ticks say with a tick more too
 divided-below : (d : Inside) → d.ticks < 64 → d.so_far.rest < d.divisor_size → IsDivided d → IsDivided (stepped d (with_bit d.so_far d.divisor_size))
 divided-below d under below before =
     let size = size_of d in
@@ -82,7 +82,7 @@ divided-below d under below before =
       whole = λ fits. ap (λ i. i * divisor + number % divisor) more.bits ∙ omega (arith, parts, top, before.whole below, bits-more size d.ticks under) ∙ ap (λ i. size / 2 ^ i) (sym left);
     })
 
--- elsewhere too
+-- a division whose rest isn't below the divisor is as far as its ticks say with a tick more too
 divided-above : (d : Inside) → d.divisor_size ≤ d.so_far.rest → IsDivided d → IsDivided (stepped d (with_bit d.so_far d.divisor_size))
 divided-above d above before =
     subst (λ (p : Partial). IsDivided (stepped d p)) (sym (taken-above d.so_far d.divisor_size above)) (record {
@@ -92,7 +92,7 @@ divided-above d above before =
       whole = λ below. absurd (omega (arith, below, above));
     })
 
--- so it is wherever the rest is
+-- a division that is as far as its ticks say is so with a tick more, wherever its rest is
 divided-either : (d : Inside) → d.ticks < 64 → IsDivided d → (d.so_far.rest < d.divisor_size) ⊎ (d.divisor_size ≤ d.so_far.rest) → IsDivided (stepped d (with_bit d.so_far d.divisor_size))
 divided-either d under before (inl below) = divided-below d under below before
 divided-either d under before (inr above) = divided-above d above before
@@ -190,7 +190,7 @@ outcome-below d last known below =
     let whole : d.so_far.low * unsigned_abs e + d.so_far.rest ≡ unsigned_abs n = ap (λ i. d.so_far.low * i + d.so_far.rest) (sym known.divisor_is) ∙ (quotient-whole d last known below).1 in
     chosen-less d.so_far.rest (unsigned_abs e) (settled d.kind (signed_of (differ (is_negative n) (is_negative e)) d.so_far.low) (signed_of (is_negative n) d.so_far.rest)) NoQuotient within ∙ divided-parts d.kind n e d.so_far within whole
 
--- elsewhere there is none
+-- where the rest isn't below the divisor, the outcome is that there is no quotient
 outcome-above : (d : Inside) → IsDivided d → d.divisor_size ≤ d.so_far.rest → (size_of d < d.divisor_size * 2 ^ 64) ⊎ (d.divisor_size * 2 ^ 64 ≤ size_of d) → outcome_of d.kind d.dividend d.divisor d.so_far ≡ quotient_of (division_of d)
 outcome-above d known above (inl near) = absurd (omega (arith, above, known.small near))
 outcome-above d known above (inr far) =
@@ -198,12 +198,12 @@ outcome-above d known above (inr far) =
     let e = divisor_of d.kind d.divisor in
     chosen-more d.so_far.rest (unsigned_abs e) (settled d.kind (signed_of (differ (is_negative n) (is_negative e)) d.so_far.low) (signed_of (is_negative n) d.so_far.rest)) NoQuotient (omega (arith, above, known.divisor_is)) ∙ sym (divided-far d.kind n e (omega (arith, far, known.divisor_is)) (eq-zero-or-pos (unsigned_abs e)))
 
--- either way the outcome is the quotient
+-- the outcome is the quotient, or that there is none, wherever the rest is
 outcome-is : (d : Inside) → d.ticks ≡ 64 → IsDivided d → (d.so_far.rest < d.divisor_size) ⊎ (d.divisor_size ≤ d.so_far.rest) → outcome_of d.kind d.dividend d.divisor d.so_far ≡ quotient_of (division_of d)
 outcome-is d last known (inl below) = outcome-below d last known below
 outcome-is d last known (inr above) = outcome-above d known above (cases_lt (size_of d) (d.divisor_size * 2 ^ 64))
 
--- so it is what the 65th tick answers
+-- the outcome is what the 65th tick answers
 pub answered-last : (d : Inside) → d.ticks ≡ 64 → IsDivided d → Some (outcome_of d.kind d.dividend d.divisor d.so_far) ≡ quotient_at (division_of d)
 answered-last d last known =
     ap (λ (out : DivOut). Some out) (outcome-is d last known (cases_lt d.so_far.rest d.divisor_size)) ∙ sym (ap (λ i. if i == 64 then Some (quotient_of (division_of d)) else None) last)

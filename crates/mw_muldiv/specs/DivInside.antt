@@ -9,7 +9,7 @@ use Rattle.mw_muldiv.specs.declared.numbers.DivOut.TheVariants.{NoQuotient}
 use Rattle.mw_muldiv.specs.declared.divider.Div.TheInside.{Inside}
 use Rattle.mw_muldiv.specs.Division.{Division, dividend_of, divisor_of, settled}
 
--- what is seen of it
+-- what is seen of a division under way
 abbrev pub division_of : Inside → Division
 division_of d = record { kind = d.kind; dividend = d.dividend; divisor = d.divisor; ticks = d.ticks }
 
@@ -29,7 +29,7 @@ differ false sign = sign
 differ true sign = not sign
 
 -- what is found with a bit of the dividend more, which is the left one of the low bits: the quotient's bit goes behind
--- them. Where the rest isn't below the divisor nothing is done
+-- the low bits. Where the rest isn't below the divisor nothing is done
 abbrev pub with_bit : Partial → ℕ → Partial
 with_bit p divisor =
     let number = 2 * p.rest + p.low / 2 ^ 63 in
@@ -42,7 +42,7 @@ ones_of Unsigned64 = 0xFFFF_FFFF_FFFF_FFFF
 ones_of Signed32 = 0xFFFF_FFFF
 ones_of Unsigned32 = 0xFFFF_FFFF
 
--- what it comes to, by what was found: where the rest isn't below the divisor there is no quotient of 64 bits
+-- what a division comes to, by what was found: where the rest isn't below the divisor there is no quotient of 64 bits
 abbrev pub outcome_of : DivKind → Wide128 → ℕ → Partial → DivOut
 outcome_of kind dividend divisor p =
     let n = dividend_of kind dividend in
@@ -53,12 +53,12 @@ outcome_of kind dividend divisor p =
 abbrev pub size_of : Inside → ℕ
 size_of d = unsigned_abs (dividend_of d.kind d.dividend)
 
--- it is as far as its ticks say
+-- a division is as far as its ticks say
 pub record IsDivided (d : Inside) : Type 0 where
   pub divisor_is : d.divisor_size ≡ unsigned_abs (divisor_of d.kind d.divisor)
   -- the rest is below the divisor where the quotient has at most 64 bits
   pub small : size_of d < d.divisor_size * 2 ^ 64 → d.so_far.rest < d.divisor_size
-  -- then the low bits are those that weren't taken yet, and a bit of the quotient for each tick
+  -- where the rest is below the divisor the low bits are those that weren't taken yet, and a bit of the quotient for each tick
   pub low_is : d.so_far.rest < d.divisor_size → d.so_far.low ≡ size_of d % 2 ^ (64 - d.ticks) * 2 ^ d.ticks + d.so_far.low % 2 ^ d.ticks
-  -- and those that were taken are the quotient times the divisor, and the rest
+  -- where the rest is below the divisor the bits that were taken are the quotient times the divisor, and the rest
   pub whole : d.so_far.rest < d.divisor_size → d.so_far.low % 2 ^ d.ticks * d.divisor_size + d.so_far.rest ≡ size_of d / 2 ^ (64 - d.ticks)

@@ -7,7 +7,7 @@ use Rattle.mw_muldiv.specs.declared.multiplier.Mul.TheInside.{Inside}
 use Rattle.mw_muldiv.specs.Wide.{number_of, halves_of}
 use Rattle.mw_muldiv.specs.Multiplication.{Multiplication, factor_of}
 
--- what is seen of it
+-- what is seen of a multiplication under way
 abbrev pub multiplication_of : Inside → Multiplication
 multiplication_of m = record { kind = m.kind; a = m.a; b = m.b; add = m.add; ticks = m.ticks }
 

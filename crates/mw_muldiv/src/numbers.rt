@@ -13,9 +13,9 @@ pub struct Wide128 {
 /// How a multiplication reads its factors (Book I, fixed-point arithmetic instructions).
 #[derive(Clone, Copy, Debug, PartialEq, Eq)]
 pub enum MulKind {
-    /// Both are signed.
+    /// Both factors are signed.
     Signed,
-    /// Neither is.
+    /// Neither factor is signed.
     Unsigned,
 }
 

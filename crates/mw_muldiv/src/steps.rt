@@ -19,7 +19,7 @@ fn count_in(number: u128, divisor: u64) -> u64
     if number < u128::from(divisor) { 0 } else { 1 }
 }
 
-/// What is left of it then.
+/// What is left of a number below twice the divisor once the divisor is taken out.
 fn reduced(number: u128, divisor: u64) -> u64
     requires { number < 2 * divisor }
     ensures { result ≡ number % divisor }

@@ -54,7 +54,7 @@ prefix_of (Mls pcrel disp suffix) = prefix_with (opening 2) pcrel disp
 prefix_of (Eight pcrel disp suffix) = prefix_with (opening 0) pcrel disp
 prefix_of (Nop suffix) = nop_prefix
 
--- its suffix
+-- the suffix of a prefixed instruction
 abbrev pub suffix_of : Wide → ℕ
 suffix_of (Mls pcrel disp suffix) = suffix
 suffix_of (Eight pcrel disp suffix) = suffix

@@ -5,7 +5,7 @@ use std::test::Fail;
 // The words are LLVM's, but for those that choose no field or several by mfocrf and mtocrf and those with reserved bits;
 // the values are worked out from the manual's text.
 
-/// What stands in r5 before most of them.
+/// What stands in r5 before most rows.
 pub const OLD: u64 = 0x5555_5555_5555_5555;
 
 /// A word; CR; the contents of r3, r4, r5 and XER before it; and those of r5 and CR behind it.

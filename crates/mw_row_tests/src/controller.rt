@@ -17,7 +17,7 @@ static PROGRAMS: [Program; 8] = [
     // the interprocessor interrupt, which is looked at, accepted and ended:
     // li r3,0; oris r3,r3,0xc000; ori r9,r3,0x4004; ori r10,r3,0x400c; ori r11,r3,0x4000; li r4,255; stb r4,0(r9); li r5,0x30; stb r5,0(r10); lwbrx r12,r0,r11; lwbrx r13,r0,r9; lwbrx r14,r0,r11; stb r4,0(r10); lbz r15,0(r9); stwbrx r13,r0,r9; lwbrx r16,r0,r9; lbz r17,0(r10); lwz r18,0(r10); ld r19,0(r11); lhz r20,0(r9); lwz r21,4(r10); b .
     Program(&[0x3860_0000, 0x6463_c000, 0x6069_4004, 0x606a_400c, 0x606b_4000, 0x3880_00ff, 0x9889_0000, 0x38a0_0030, 0x98aa_0000, 0x7d80_5c2c, 0x7da0_4c2c, 0x7dc0_5c2c, 0x988a_0000, 0x89e9_0000, 0x7da0_4d2c, 0x7e00_4c2c, 0x8a2a_0000, 0x824a_0000, 0xea6b_0000, 0xa289_0000, 0x82aa_0004, 0x4800_0000], b"", 40, &[(12, 0xff00_0002), (13, 0xff00_0002), (14, 0x3000_0000), (15, 0x30), (16, 0xff00_0000), (17, 0xff), (18, 0xff), (19, 0), (20, 0), (21, 0)]),
-    // a tie of the two, and a source of CPPR's own priority:
+    // a tie of line 0 and the interprocessor interrupt, and a source of CPPR's own priority:
     // li r3,0; oris r3,r3,0xc000; ori r5,r3,0x2000; li r6,2; std r6,32(r5); ori r7,r3,0x5800; li r8,5; stwbrx r8,r0,r7; ori r10,r3,0x400c; stb r8,0(r10); ori r9,r3,0x4004; li r4,255; stb r4,0(r9); lwbrx r12,r0,r9; stb r4,0(r10); lwbrx r13,r0,r9; stwbrx r12,r0,r9; lwbrx r14,r0,r9; li r6,5; stb r6,0(r9); lwbrx r15,r0,r9; lwz r16,0(r7); lbz r17,3(r7); b .
     Program(&[0x3860_0000, 0x6463_c000, 0x6065_2000, 0x38c0_0002, 0xf8c5_0020, 0x6067_5800, 0x3900_0005, 0x7d00_3d2c, 0x606a_400c, 0x990a_0000, 0x6069_4004, 0x3880_00ff, 0x9889_0000, 0x7d80_4c2c, 0x988a_0000, 0x7da0_4c2c, 0x7d80_4d2c, 0x7dc0_4c2c, 0x38c0_0005, 0x98c9_0000, 0x7de0_4c2c, 0x8207_0000, 0x8a27_0003, 0x4800_0000], b"", 40, &[(12, 0xff00_0002), (13, 0x500_0000), (14, 0xff00_0010), (15, 0x500_0000), (16, 0x500_0000), (17, 0)]),
     // a byte arrives in cycle 13, behind the first look, and is taken:
@@ -96,7 +96,7 @@ static ACCESSES: [Access; 121] = [
     Access(0x88c3_0001, 0, [0x80, 0x20, 0x30, 0xff, 0xff]), // lbz r6,1(r3)
     Access(0xa0c3_0002, 0, [0x80, 0x20, 0x30, 0xff, 0xff]), // lhz r6,2(r3)
     Access(0x88c3_0003, 0, [0x80, 0x20, 0x30, 0xff, 0xff]), // lbz r6,3(r3)
-    // and no store
+    // no store to XIRR at 0
     Access(0x90a3_0000, OTHER, [0x80, 0x20, 0x30, 0xff, 0xff]), // stw r5,0(r3)
     Access(0x98a3_0000, OTHER, [0x80, 0x20, 0x30, 0xff, 0xff]), // stb r5,0(r3)
     Access(0xb0a3_0000, OTHER, [0x80, 0x20, 0x30, 0xff, 0xff]), // sth r5,0(r3)
@@ -119,7 +119,7 @@ static ACCESSES: [Access; 121] = [
     Access(0xb0a3_0006, OTHER, [0x80, 0x20, 0x30, 0xff, 0xff]), // sth r5,6(r3)
     Access(0x98a3_0007, OTHER, [0x80, 0x20, 0x30, 0xff, 0xff]), // stb r5,7(r3)
     Access(0x7ca3_252c, OTHER, [0x11, 0x20, 0x30, 0xff, 0xff]), // stwbrx r5,r3,r4
-    // cache instructions there, at r3 and r4: no accept, and no end
+    // cache instructions at 4, the sum of r3 and r4: no accept, and no end
     Access(0x7c03_206c, OTHER, [0x80, 0x20, 0x30, 0xff, 0xff]), // dcbst r3,r4
     Access(0x7c03_20ac, OTHER, [0x80, 0x20, 0x30, 0xff, 0xff]), // dcbf r3,r4
     Access(0x7c03_222c, OTHER, [0x80, 0x20, 0x30, 0xff, 0xff]), // dcbt r3,r4
@@ -149,7 +149,7 @@ static ACCESSES: [Access; 121] = [
     Access(0x98a3_000d, OTHER, [0x80, 0x20, 0x30, 0xff, 0xff]), // stb r5,0xd(r3)
     Access(0xb0a3_000e, OTHER, [0x80, 0x20, 0x30, 0xff, 0xff]), // sth r5,0xe(r3)
     Access(0x98a3_000f, OTHER, [0x80, 0x20, 0x30, 0xff, 0xff]), // stb r5,0xf(r3)
-    // nothing from 0x10 on, a page on, or right before the sources
+    // nothing from 0x10 on, a page on, or right before the priorities of the lines
     Access(0x80c3_0010, 0, [0x80, 0x20, 0x30, 0xff, 0xff]), // lwz r6,0x10(r3)
     Access(0x88c3_0010, 0, [0x80, 0x20, 0x30, 0xff, 0xff]), // lbz r6,0x10(r3)
     Access(0xe8c3_0010, 0, [0x80, 0x20, 0x30, 0xff, 0xff]), // ld r6,0x10(r3)
@@ -204,7 +204,7 @@ static ACCESSES: [Access; 121] = [
     Access(0x98a3_1fff, OTHER, [0x80, 0x20, 0x30, 0xff, 0xff]), // stb r5,0x1fff(r3)
     Access(0x90a3_1ffc, OTHER, [0x80, 0x20, 0x30, 0xff, 0xff]), // stw r5,0x1ffc(r3)
     Access(0xf8a3_1ff8, OTHER, [0x80, 0x20, 0x30, 0xff, 0xff]), // std r5,0x1ff8(r3)
-    // around it, where nothing stands
+    // around the controller's pages, where nothing stands
     Access(0x88c3_ffff, 0xff, [0x80, 0x20, 0x30, 0xff, 0xff]), // lbz r6,-1(r3)
     Access(0x80c3_fffc, 0xffff_ffff, [0x80, 0x20, 0x30, 0xff, 0xff]), // lwz r6,-4(r3)
     Access(0xe8c3_fff8, 0xffff_ffff_ffff_ffff, [0x80, 0x20, 0x30, 0xff, 0xff]), // ld r6,-8(r3)
@@ -253,7 +253,7 @@ fn set_up(devices: &mut Devices) {
     devices.store(0xC000_583C, &[0, 0, 0, 0xff]);
 }
 
-/// CPPR, MFRR and the priorities of lines 0, 1 and 15.
+/// What CPPR, MFRR and the priorities of lines 0, 1 and 15 hold.
 fn held(devices: &mut Devices) -> [u8; 5] {
     [
         devices.load(0xC000_4000, 1)[0],
@@ -264,7 +264,7 @@ fn held(devices: &mut Devices) -> [u8; 5] {
     ]
 }
 
-/// Lays a word and sets its registers up.
+/// Lays a word and sets its general purpose registers up.
 fn lay_access(state: &mut State, word: u32) {
     lay(state, word, 0x4800_0000, 0x100);
     state.regs.gpr[3] = 0xC000_4000;

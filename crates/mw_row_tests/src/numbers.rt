@@ -32,7 +32,7 @@ enum Register {
     Tar,
 }
 
-/// All of them.
+/// All registers that are looked at.
 #[rattlefmt::skip]
 static REGISTERS: [Register; 19] = [
     Xer, Lr, Ctr, Dsisr, Dar, Dec, Srr0, Srr1, Pidr, Sprg0, Sprg1, Sprg2, Sprg3, Hsprg0, Hsprg1, Hsrr0, Hsrr1, Prtbl, Tar,
@@ -112,7 +112,7 @@ static NUMBERS: [Number; 79] = [
     Number([0x7c89_caa6, 0x7c69_cba6, 0x7ca9_caa6], [7, 7], 0, None), // mfspr r4,809; mtspr 809,r3; mfspr r5,809
     Number([0x7c8a_caa6, 0x7c6a_cba6, 0x7caa_caa6], [7, 7], 0, None), // mfspr r4,810; mtspr 810,r3; mfspr r5,810
     Number([0x7c8b_caa6, 0x7c6b_cba6, 0x7cab_caa6], [7, 7], 0, None), // mfspr r4,811; mtspr 811,r3; mfspr r5,811
-    // and the others
+    // numbers above the reserved ones
     Number([0x7c8c_caa6, 0x7c6c_cba6, 0x7cac_caa6], [7, 7], 0, None), // mfspr r4,812; mtspr 812,r3; mfspr r5,812
     Number([0x7c8e_caa6, 0x7c6e_cba6, 0x7cae_caa6], [7, 7], 0, None), // mfspr r4,814; mtspr 814,r3; mfspr r5,814
     Number([0x7c8f_caa6, 0x7c6f_cba6, 0x7caf_caa6], [0, 0x9234_5678_9abc_def0], 0, Some((Tar, 0x9234_5678_9abc_def0))), // mfspr r4,815; mtspr 815,r3; mfspr r5,815

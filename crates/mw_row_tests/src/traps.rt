@@ -156,7 +156,7 @@ static REGISTERS: [Row; 145] = [
     Row(0x7f63_2008, [1, 0xffff_ffff], true), // tw 27,r3,r4
 ];
 
-/// tdi and twi likewise.
+/// tdi and twi with each bit of TO by itself, and with none, some and all.
 #[rattlefmt::skip]
 static NUMBERS: [Row; 155] = [
     Row(0x0a03_0002, [1, OTHER], true), // tdi 16,r3,2

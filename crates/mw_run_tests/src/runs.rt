@@ -83,7 +83,7 @@ fn what_is_written_is_what_is_simulated(rt: HostRuntime) -> Result<(), Fail> {
 const STORING: &[u8] =
     b"\x00\x01\x60\x38\xff\xff\x80\x38\x04\x00\x83\xf8\x08\x00\xa3\x80\x02\x00\xc3\xa8\x00\x00\x00\x48";
 
-/// The text of 60,000 cycles of it, with the 16 bytes from 256 on.
+/// The text of 60,000 cycles of `STORING`, with the 16 bytes from 256 on.
 fn text_of_storing(alloc: Global) -> Result<String, AllocError> {
     let mut text = String::new(alloc);
     text.push_str(
@@ -128,7 +128,7 @@ fn a_store_is_dumped(rt: HostRuntime) -> Result<(), Fail> {
 const SENDING: &[u8] =
     b"\x20\x00\x60\xe8\x41\x00\x80\x38\x00\x00\x83\x98\x00\x00\x00\x48\0\0\0\0\0\0\0\0\0\0\0\0\0\0\0\0\x00\x20\x00\xc0\0\0\0\0";
 
-/// The text of so many cycles of it, with the digits of the decrementer and what the UART sent.
+/// The text of so many cycles of `SENDING`, with the digits of the decrementer and what the UART sent.
 fn text_of_sending(
     alloc: Global,
     cycles: u64,

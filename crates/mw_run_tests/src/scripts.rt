@@ -94,7 +94,7 @@ fn bytes_arrive_at_a_run(rt: HostRuntime) -> Result<(), Fail> {
     Ok(())
 }
 
-/// Behind a dump, and where no byte arrives within the run.
+/// A script is read behind a dump, and where no byte of it arrives within the run.
 #[test]
 fn a_script_stands_behind_a_dump(rt: HostRuntime) -> Result<(), Fail> {
     let alloc = rt.alloc();
@@ -127,7 +127,7 @@ const CONSOLE: [u32; 28] = [
     0x6c6c_6548, 0x6f57_206f, 0x0a64_6c72, 0x0000_0000,
 ];
 
-/// Its greeting goes out, a byte every 8,640 cycles, and behind it each byte that arrives.
+/// The console's greeting goes out, a byte every 8,640 cycles, and behind it each byte that arrives.
 #[test]
 fn a_console_greets_and_sends_back(rt: HostRuntime) -> Result<(), Fail> {
     let alloc = rt.alloc();
@@ -160,7 +160,7 @@ const SUMMING: [u32; 13] = [
     0x7cc6_3a14, 0x4200_fff8, 0xe923_0010, 0x8943_0008, 0x4800_0000,
 ];
 
-/// The registers behind it that aren't 0: the queue is full of 16 bytes, whose sum is 0x78, and then it is empty.
+/// The registers behind `SUMMING` that aren't 0: the queue is full of 16 bytes, whose sum is 0x78, and then it is empty.
 #[rattlefmt::skip]
 const SUMMED: [(usize, &str); 6] = [
     (3, "00000000c0002000"), (4, "0000000000000006"), (5, "0000000000000010"), (6, "0000000000000078"),

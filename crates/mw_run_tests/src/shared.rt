@@ -3,7 +3,7 @@ use std::alloc::{AllocError, Global};
 /// `addi r3,0,5` at 0, and `b .` at 4, little-endian.
 pub const LOOP: &[u8] = b"\x05\x00\x60\x38\x00\x00\x00\x48";
 
-/// The first instruction alone: behind it stands the word 0, which is illegal.
+/// The first instruction of `LOOP` alone: behind it stands the word 0, which is illegal.
 pub const SINGLE: &[u8] = b"\x05\x00\x60\x38";
 
 /// paddi r3,0,-8589934592,1 and behind it `b .`: a prefix and its suffix, and a word.

@@ -79,7 +79,7 @@ fn image_of(alloc: Global, parts: &[(usize, &[u32])]) -> Result<Vec<u8>, AllocEr
     Ok(image)
 }
 
-/// The text of such a run.
+/// The text of a run that traps.
 fn text_of(alloc: Global, run: &Trapped) -> Result<String, AllocError> {
     let mut text = String::new(alloc);
     for line in run.first {

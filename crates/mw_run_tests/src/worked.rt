@@ -192,7 +192,7 @@ fn push_events(text: &mut String, worked: &Worked) -> Result<(), AllocError> {
     Ok(())
 }
 
-/// The text of such a run.
+/// The text of a worked run.
 fn text_of(alloc: Global, worked: &Worked) -> Result<String, AllocError> {
     let mut text = String::new(alloc);
     push_events(&mut text, worked)?;

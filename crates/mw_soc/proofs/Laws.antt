@@ -15,7 +15,7 @@ use Rattle.mw_soc.specs.Map.{is_uart, is_xics, is_system, system_loaded, device_
 abbrev with_uart : DeviceData → UartData → DeviceData
 with_uart devices uart = record devices { uart = uart }
 
--- they stand at the cycle that they are brought to
+-- the devices stand at the cycle that they are brought to
 pub cycle-devices_at : (devices : DeviceData) (cycle : ℕ) → cycle_of (devices_at devices cycle) ≡ cycle
 cycle-devices_at devices cycle = cycle-uart_at devices.uart cycle
 
@@ -24,14 +24,14 @@ one-cycle : (b : Bool) (x y : DeviceData) (cycle : ℕ) → cycle_of x ≡ cycle
 one-cycle true x y cycle p q = p
 one-cycle false x y cycle p q = q
 
--- a load leaves the cycle
+-- a load leaves the devices' cycle
 pub cycle-device_load : (devices : DeviceData) (at width : ℕ) → cycle_of (after_device_load devices at width) ≡ cycle_of devices
 unfolding after_device_load
 cycle-device_load devices at width =
     one-cycle (is_uart at) _ _ (cycle_of devices) (cycle-after_load devices.uart _)
     (one-cycle (is_xics at) _ devices (cycle_of devices) refl refl)
 
--- and so does a store
+-- a store leaves the devices' cycle
 pub cycle-device_store : (devices : DeviceData) (at : ℕ) (bytes : List ℕ) → cycle_of (after_device_store devices at bytes) ≡ cycle_of devices
 unfolding after_device_store
 cycle-device_store devices at bytes =
@@ -54,13 +54,13 @@ kept-advance old new now cycle dec_at e v later within =
     let n : new.uart.cycle ≡ cycle = ap (λ (r : Roomy). r.uart.cycle) e ∙ cycle-uart_at old.uart cycle in
     omega arith
 
--- nor after that of the UART that was loaded from
+-- a cycle that isn't after the UART's isn't after that of the UART behind a load from it
 pub kept-load : (old new : Roomy) (offset dec_at : ℕ) → new ≡ record old { uart = after_load old.uart offset } → dec_at ≤ old.uart.cycle → dec_at ≤ new.uart.cycle
 kept-load old new offset dec_at e within =
     let n : new.uart.cycle ≡ old.uart.cycle = ap (λ (r : Roomy). r.uart.cycle) e ∙ cycle-after_load old.uart offset in
     omega arith
 
--- or stored to
+-- a cycle that isn't after the UART's isn't after that of the UART behind a store to it
 pub kept-store : (old new : Roomy) (offset dec_at : ℕ) (bytes : List ℕ) → new ≡ record old { uart = after_store old.uart offset bytes } → dec_at ≤ old.uart.cycle → dec_at ≤ new.uart.cycle
 kept-store old new offset dec_at bytes e within =
     let n : new.uart.cycle ≡ old.uart.cycle = ap (λ (r : Roomy). r.uart.cycle) e ∙ cycle-after_store old.uart offset bytes in
@@ -75,7 +75,7 @@ abbrev pub devices_by : DeviceData → List ℕ → DeviceData
 devices_by devices [] = devices
 devices_by devices (cycle ∷ cycles) = devices_by (devices_at devices cycle) cycles
 
--- only the UART goes with them
+-- devices that are brought to cycles change in their UART alone
 devices_by-uart : (devices : DeviceData) (cycles : List ℕ) → devices_by devices cycles ≡ with_uart devices (brought_by devices.uart cycles)
 devices_by-uart devices [] = refl
 devices_by-uart devices (cycle ∷ cycles) = devices_by-uart (devices_at devices cycle) cycles

@@ -3,8 +3,8 @@ use Rattle.std.specs.Prelude.{ℕ}
 use Rattle.mw_uart.specs.UartData.{UartData}
 use Rattle.mw_xics.specs.XicsData.{XicsData}
 
--- the UART, whose cycle is the one that all stand at; the interrupt controller; what the last write gave the decrementer;
--- and when that was
+-- the devices: the UART, whose cycle is the one that all stand at; the interrupt controller; what the last write gave the
+-- decrementer; and the cycle of that write
 pub record DeviceData : Type 0 where
   pub uart : UartData
   pub xics : XicsData

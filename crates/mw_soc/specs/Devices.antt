@@ -11,11 +11,11 @@ use Rattle.mw_soc.specs.DeviceData.{DeviceData}
 abbrev pub start_devices : List (ℕ × ℕ) → DeviceData
 start_devices script = record { uart = start_uart script; xics = start_xics; dec = 0x7FFF_FFFF; dec_at = 0 }
 
--- the cycle that they stand at, which is the time base
+-- the cycle that the devices stand at, which is the time base
 abbrev pub cycle_of : DeviceData → ℕ
 cycle_of devices = devices.uart.cycle
 
--- they brought to a cycle that isn't before theirs
+-- the devices brought to a cycle that isn't before theirs
 abbrev pub devices_at : DeviceData → ℕ → DeviceData
 devices_at devices cycle = record devices { uart = uart_at devices.uart cycle }
 
@@ -32,6 +32,6 @@ dec_stands devices = nat_le (2 ^ 31) (dec_of devices)
 abbrev pub external_stands : DeviceData → Bool
 external_stands devices = is_some (pending_of devices.xics (line_of devices.uart))
 
--- with a value written to the decrementer
+-- the devices with a value written to the decrementer
 abbrev pub with_dec : DeviceData → ℕ → DeviceData
 with_dec devices value = record devices { dec = value; dec_at = cycle_of devices }

@@ -9,11 +9,11 @@ use Rattle.mw_soc.specs.DeviceData.{DeviceData}
 abbrev pub is_system : ℕ → Bool
 is_system at = nat_le 0xC000_0000 at && nat_lt at 0xC000_1000
 
--- the UART stands there
+-- the UART stands at a real address
 abbrev pub is_uart : ℕ → Bool
 is_uart at = nat_le 0xC000_2000 at && nat_lt at 0xC000_3000
 
--- the interrupt controller stands there, its two pages as one device
+-- the interrupt controller stands at a real address, its two pages as one device
 abbrev pub is_xics : ℕ → Bool
 is_xics at = nat_le 0xC000_4000 at && nat_lt at 0xC000_6000
 
@@ -26,7 +26,7 @@ system_number offset =
     else if offset == 0x20 then 100000000
     else 0
 
--- the bytes that a load there gives: only one of 8 bytes gives a doubleword, little-endian, and any other zeros
+-- the bytes that a load from the system controller gives: one of 8 bytes a doubleword, little-endian, and any other zeros
 unfoldable pub system_loaded : ℕ → ℕ → List ℕ
 system_loaded offset width = if width == 8 then to_le_bytes w64 (system_number offset) else replicate width 0
 

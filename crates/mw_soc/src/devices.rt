@@ -18,7 +18,7 @@ pub struct Devices {
     xics: Xics,
     /// The decrementer as it was last written.
     dec: u32,
-    /// The cycle of that writing.
+    /// The cycle at which the decrementer was last written.
     dec_at: u64,
 }
 
@@ -40,14 +40,14 @@ fn is_uart(at: u64) -> bool
     0xC000_2000 <= at && at < 0xC000_3000
 }
 
-/// The interrupt controller stands there.
+/// The interrupt controller stands at a real address.
 fn is_xics(at: u64) -> bool
     ensures { result ≡ is_xics at }
 {
     0xC000_4000 <= at && at < 0xC000_6000
 }
 
-/// The system controller stands there.
+/// The system controller stands at a real address.
 fn is_system(at: u64) -> bool
     ensures { result ≡ is_system at }
 {

@@ -10,14 +10,14 @@ macro_rules! both {
     };
 }
 
-/// The line of one that is only read.
+/// The line of a register that is only read.
 macro_rules! read_only {
     ($number:literal, $register:expr) => {
         NumberedLine { number: $number, register: $register, readable: true, writable: false }
     };
 }
 
-/// The line of one that is only written.
+/// The line of a register that is only written.
 macro_rules! write_only {
     ($number:literal, $register:expr) => {
         NumberedLine { number: $number, register: $register, readable: false, writable: true }

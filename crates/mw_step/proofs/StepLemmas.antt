@@ -35,27 +35,27 @@ trapped-is state prepared raised there built trap is cause = record {
       cc;
 }
 
--- a prefix that is cut off raises the interrupt of one
+-- a prefix that is cut off raises the interrupt of a cut prefix
 pub prepared-cut : (state : State) (prepared : Prepared) (cut marked_cut : Raised) → fetched state ≡ Some prepared.words → is_cut prepared.words ≡ true → cut ≡ cut_raised → marked_cut ≡ marked (Some prepared.words) cut → prepared.raised ≡ Some marked_cut → IfSome prepared.raised (λ (it : Raised). IsCause it.cause) → IsPrepared prepared state
 prepared-cut state prepared cut marked_cut there is_cut c m r cause =
     trapped-is state prepared (marked (Some prepared.words) cut_raised) there (builds-none prepared.words state there (insn_of-cut prepared.words is_cut)) (trapped-fetch prepared.words state there is_cut)
     (r ∙ ap Some (m ∙ ap (marked (Some prepared.words)) c)) cause
 
--- what is no instruction by the test is none
+-- words that are no instruction by the test are no instruction
 none-insn : (what : Decoded) → is_insn what ≡ false → insn_in what ≡ None
 none-insn (Is insn) e = cc
 none-insn (Unavailable facility) e = refl
 none-insn (Alignment ra rb disp) e = refl
 none-insn Illegal e = refl
 
--- and raises an interrupt
+-- words that are no instruction raise an interrupt
 some-raised : (what : Decoded) (view : Slot → ℕ) → is_insn what ≡ false → (raised : Raised) × (decoded_raises what view ≡ Some raised)
 some-raised (Is insn) view e = cc
 some-raised (Unavailable facility) view e = (_, refl)
 some-raised (Alignment ra rb disp) view e = (_, refl)
 some-raised Illegal view e = (_, refl)
 
--- words that are none raise theirs
+-- words that are no instruction are prepared with the interrupt that they raise
 pub prepared-words : (state : State) (prepared : Prepared) (raised : Option Raised) → fetched state ≡ Some prepared.words → is_cut prepared.words ≡ false → is_insn (decoded_of prepared.words) ≡ false → raised ≡ words_raise prepared.words (get_slot state.regs) → prepared.raised ≡ option_map (marked (Some prepared.words)) raised → IfSome prepared.raised (λ (it : Raised). IsCause it.cause) → IsPrepared prepared state
 prepared-words state prepared raised there whole none w r cause =
     let some = some-raised (decoded_of prepared.words) (get_slot state.regs) none in
@@ -77,7 +77,7 @@ pub record Looked (state : State) (prepared : Prepared) (operands : Operands) (r
   pub sized : OnMemory IsSized prepared.outcome
   pub stands : OnPlaced IsPlaced prepared.outcome prepared.placed
 
--- so it is known
+-- an instruction that was looked at is known
 looked-known : (state : State) (prepared : Prepared) (operands : Operands) (raised : Option Raised) → Looked state prepared operands raised → IsKnown prepared.words prepared.insn prepared.outcome state
 looked-known state prepared operands raised l = record {
   words_are = l.there;
@@ -85,7 +85,7 @@ looked-known state prepared operands raised l = record {
   outcome_is = ap (λ (v : Operands). exec_of prepared.insn v state.regs.cia) (sym l.operands_are) ∙ l.outcome;
 }
 
--- nothing marked was nothing
+-- an interrupt that isn't there once it is marked isn't there before
 none-marked : (words : Fetched) (raised : Option Raised) → option_map (marked (Some words)) raised ≡ None → raised ≡ None
 none-marked words None e = refl
 none-marked words (Some raised) e = cc
@@ -103,13 +103,13 @@ looked-comes state prepared operands raised l calm = record {
   };
 }
 
--- whether it is built is told by what it comes to
+-- whether an instruction that was looked at is built is told by what it comes to
 looked-built : (state : State) (prepared : Prepared) (operands : Operands) (raised : Option Raised) → Looked state prepared operands raised → builds state ≡ is_built_outcome prepared.outcome prepared.placed state.regs
 looked-built state prepared operands raised l =
     builds-known prepared.words prepared.insn prepared.outcome state (looked-known state prepared operands raised l)
     ∙ ap (λ (place : Option Placed). is_built_outcome prepared.outcome place state.regs) (sym l.placed)
 
--- and it raises what was found
+-- an instruction that was looked at raises the interrupt that was found
 looked-trap : (state : State) (prepared : Prepared) (operands : Operands) (raised : Option Raised) → Looked state prepared operands raised → (step state).trap ≡ prepared.raised
 looked-trap state prepared operands raised l =
     trap-known prepared.words prepared.insn prepared.outcome state (looked-known state prepared operands raised l)

@@ -23,27 +23,27 @@ part-read : (ram : List ℕ) (at k n len : ℕ) (bytes : List ℕ) → k ≡ len
 part-read ram at k n len bytes sized front read =
     ap₂ take (front ∙ sym sized) read ∙ take-padded (bytes_at ram at k) k (length-bytes_at ram at k) ∙ ap (bytes_at ram at) sized
 
--- two reads, one behind the other
+-- two reads, one behind the other, give the bytes of the two stretches
 pub two-read : (ram front back : List ℕ) (at : Stretches) (second : Stretch) (j k m n : ℕ) → at.second ≡ Some second → j ≡ at.first.len → m ≡ at.first.len → front ≡ padded (bytes_at ram at.first.at j) → k ≡ second.len → n ≡ second.len → back ≡ padded (bytes_at ram second.at k) → padded (take m front ++ take n back) ≡ padded (bytes_in ram at)
 two-read ram front back at second j k m n there j_is m_is first k_is n_is other =
     ap₂ (λ (xs ys : List ℕ). padded (xs ++ ys)) (part-read ram at.first.at j m at.first.len front j_is m_is first) (part-read ram second.at k n second.len back k_is n_is other)
     ∙ ap (λ (o : Option Stretch). padded (bytes_by ram at.first o)) (sym there)
 
--- the stretches' bytes are as many as they have
+-- the bytes in stretches are as many as the stretches have
 length-bytes_by : (ram : List ℕ) (first : Stretch) (second : Option Stretch) → length (bytes_by ram first second) ≡ size_of (record { first = first; second = second })
 length-bytes_by ram first None = length-bytes_at ram first.at first.len ∙ omega arith
 length-bytes_by ram first (Some second) =
     length-append (bytes_at ram first.at first.len) (bytes_at ram second.at second.len)
     ∙ ap₂ (λ (m n : ℕ). m + n) (length-bytes_at ram first.at first.len) (length-bytes_at ram second.at second.len)
 
--- they are those of a load where RAM is
+-- the bytes of stretches in RAM are those that a load gives
 pub load-there : (ram bytes : List ℕ) (op : MemOp) (at : Stretches) (devices : DeviceData) → size_of at ≡ op.len → bytes ≡ padded (bytes_in ram at) → true ≡ is_in_ram at → take op.len bytes ≡ load_bytes at ram devices
 load-there ram bytes op at devices sized read there =
     ap₂ take (sym sized) read
     ∙ take-padded (bytes_in ram at) (size_of at) (length-bytes_by ram at.first at.second)
     ∙ ap (λ (b : Bool). cond b (bytes_in ram at) (device_loaded devices at.first.at at.first.len)) there
 
--- and where RAM isn't, they are a device's
+-- the bytes of a device are those that a load gives where RAM isn't
 pub load-elsewhere : (ram bytes : List ℕ) (op : MemOp) (at : Stretches) (devices : DeviceData) → IsSized op → IsPlaced op at → raises_alignment op at ≡ false → at.first.at % 8 + at.first.len ≤ 8 → bytes ≡ device_loaded devices at.first.at at.first.len ++ replicate (8 - at.first.len) 0 → false ≡ is_in_ram at → take op.len bytes ≡ load_bytes at ram devices
 load-elsewhere ram bytes op at devices sized p calm fits loaded outside =
     let one = outside-single op at sized p calm (sym outside) in
@@ -52,7 +52,7 @@ load-elsewhere ram bytes op at devices sized p calm fits loaded outside =
     ∙ take-append_seam (device_loaded devices at.first.at at.first.len) (replicate (8 - at.first.len) 0)
     ∙ ap (λ (b : Bool). cond b (bytes_in ram at) (device_loaded devices at.first.at at.first.len)) outside
 
--- bytes that are laid in RAM by pieces
+-- bytes that are laid in RAM by pieces are laid in the stretches
 pub lay-pieces : (ram bytes : List ℕ) (op : MemOp) (at pieces : Stretches) → length bytes ≡ op.len → op.len ≤ 64 → IsPlaced op at → is_in_ram at ≡ true → pieces ≡ pieces_in at → laid_in ram pieces bytes ≡ laid_in ram at bytes
 lay-pieces ram bytes op at pieces sized few p there are =
     let inside = leb-true (at.first.at + at.first.len) ram_size (and_parts (is_ram at.first) (option_map_or is_ram at.second true) there).0 in

@@ -13,7 +13,7 @@ use Rattle.mw_isa.specs.declared.raised.Raised.{Raised}
 use Rattle.mw_soc.specs.Devices.{cycle_of}
 use Rattle.mw_step.specs.declared.prepared.Prepared.{Prepared}
 
--- one to be written over, at which no instruction is known
+-- what is to be written over, at which no instruction is known
 abbrev pub blank : Prepared
 blank = record { words = record { word = 0; suffix = None }; insn = no_insn; outcome = Done (record { items = [] }) 0; placed = None; raised = None }
 
@@ -21,9 +21,9 @@ blank = record { words = record { word = 0; suffix = None }; insn = no_insn; out
 pub record ComesTo (prepared : Prepared) (state : State) : Type 0 where
   pub known : IsKnown prepared.words prepared.insn prepared.outcome state
   pub placed : prepared.placed ≡ placed_of prepared.outcome
-  -- which is an instruction of the table
+  -- the instruction is one of the table
   pub is : IsInsn prepared.insn
-  -- and comes to what can be carried out
+  -- the outcome is one that can be carried out
   pub can : CanFinish prepared.outcome prepared.placed
 
 -- this is what the next instruction of a state is made of, and it is built: it raises this interrupt, or none, and is and

@@ -8,15 +8,15 @@ use mw_isa::{Fetched, Outcome, PageFault, Raised, Stretches};
 /// What is known of the next instruction before anything changes.
 #[derive(Drop)]
 pub struct Prepared {
-    /// The words that it is made of.
+    /// The words that the instruction is made of.
     pub words: Fetched,
     /// The instruction.
     pub insn: Insn,
-    /// What it comes to.
+    /// What the instruction comes to.
     pub outcome: Outcome,
-    /// Where its access stands, if it has one: its stretches, or the fault of a page.
+    /// Where the instruction's access stands, if it has one: its stretches, or the fault of a page.
     pub placed: Option<Result<Stretches, PageFault>>,
-    /// The interrupt that it raises, if it does; it may then be no instruction and come to nothing.
+    /// The interrupt that the words raise, if they do; they may then be no instruction and come to nothing.
     pub raised: Option<Raised>,
 }
 

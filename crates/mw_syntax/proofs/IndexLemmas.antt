@@ -19,7 +19,7 @@ use Rattle.mw_syntax.specs.Mnemonics.{Spelling, spellings, mnemonic_of}
 use Rattle.mw_syntax.specs.Index.{is_before, is_among, IsIndex}
 use Rattle.mw_syntax.proofs.MnemonicLemmas.{list_all-at, same_at, IsSpelling, mnemonic_of-IsSpelling}
 
--- none is before the one in front of it
+-- no entry is before the one in front of it
 abbrev pub is_sorted : List Spelled → Bool
 is_sorted [] = true
 is_sorted (e ∷ []) = true

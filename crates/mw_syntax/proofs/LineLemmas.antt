@@ -39,7 +39,7 @@ All-slice_get P [] place all = tt
 All-slice_get P (x ∷ xs) zero all = all 0 x (omega arith)
 All-slice_get P (x ∷ xs) (suc place) all = All-slice_get P xs place (λ k d lt. all (suc k) d (omega arith))
 
--- there is one
+-- a value that may be there is there
 abbrev IsThere : {X : Type 0} → Option X → Type 0
 IsThere None = ⊥
 IsThere (Some x) = ⊤
@@ -128,7 +128,7 @@ register_or-is : (line : List ℕ) (tokens : List Token) (place : ℕ) (number :
 register_or-is line tokens place None spans there = expression_at-is line tokens place spans
 register_or-is line tokens place (Some number) spans there = record { column = column_at-is line tokens place spans (there tt); base = tt }
 
--- so does an operand
+-- an operand stands in the line
 operand_at-is : (kind : Kind) (line : List ℕ) (tokens : List Token) (place : ℕ) → All (IsSpan (length line)) tokens → IfOk (operand_at kind line tokens place) (IsReadIn line)
 operand_at-is Register line tokens place spans = register_or-is line tokens place (register_in line (slice_get tokens place)) spans (register_in-there line (slice_get tokens place))
 operand_at-is Value line tokens place spans = expression_at-is line tokens place spans

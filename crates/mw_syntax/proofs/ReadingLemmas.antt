@@ -21,7 +21,7 @@ pub behind-with_first : (front : List Expression) (e : Expression) (r : Result (
 behind-with_first front e (Ok others) = ap Ok (append_assoc front (e ∷ []) others)
 behind-with_first front e (Err place) = refl
 
--- at an operand
+-- how operands are read where an operand is next
 operands_at-operand : (items : List Item) (i : ℕ) (d : Item) (kind : Kind) (line : List ℕ) (tokens : List Token) (place : ℕ) → i < length items → get_or items i d ≡ Operand kind → operands_at (drop i items) line tokens place ≡ and_behind (operand_at kind line tokens place) (operands_at (drop (i + 1) items) line tokens)
 unfolding operands_at
 operands_at-operand items i d kind line tokens place lt is = rw (drop_more items i d lt, is) refl
@@ -44,7 +44,7 @@ operand-read items i d kind line tokens place r front whole lt is read same =
 abbrev pub IsMark : Item → Type 0
 IsMark item = (item ≡ Comma) ⊎ ((item ≡ Open) ⊎ (item ≡ Close))
 
--- where a mark is first
+-- how operands are read where a mark is the first item
 mark-first : (mark : Item) (items : List Item) (line : List ℕ) (tokens : List Token) (place : ℕ) → IsMark mark → operands_at (mark ∷ items) line tokens place ≡ (if is_mark mark (kind_at tokens place) then operands_at items line tokens (place + 1) else Err place)
 unfolding operands_at
 mark-first Comma items line tokens place is = refl
@@ -54,7 +54,7 @@ mark-first (Operand kind) items line tokens place (inl e) = cc
 mark-first (Operand kind) items line tokens place (inr (inl e)) = cc
 mark-first (Operand kind) items line tokens place (inr (inr e)) = cc
 
--- at a mark
+-- how operands are read where a mark is next
 operands_at-mark : (items : List Item) (i : ℕ) (d : Item) (line : List ℕ) (tokens : List Token) (place : ℕ) → i < length items → IsMark (get_or items i d) → operands_at (drop i items) line tokens place ≡ (if is_mark (get_or items i d) (kind_at tokens place) then operands_at (drop (i + 1) items) line tokens (place + 1) else Err place)
 operands_at-mark items i d line tokens place lt is = rw (drop_more items i d lt) (mark-first (get_or items i d) (drop (i + 1) items) line tokens place is)
 
@@ -70,14 +70,14 @@ pub mark-read : (items : List Item) (i : ℕ) (d : Item) (line : List ℕ) (toke
 mark-read items i d line tokens place front whole lt is read same =
     sym (rw (operands_at-mark items i d line tokens place lt is, read) refl) ∙ same
 
--- behind the last item, at the line's end
+-- behind the last item, at the line's end, the operands are whole
 pub operands-end : (items : List Item) (i : ℕ) (line : List ℕ) (tokens : List Token) (place : ℕ) (front : List Expression) (whole : Result (List Expression) ℕ) →
     length items ≤ i → place ≡ length tokens → behind front (operands_at (drop i items) line tokens place) ≡ whole → whole ≡ Ok front
 unfolding operands_at
 operands-end items i line tokens place front whole past at same =
     sym same ∙ at_drop_all (λ left. behind front (operands_at left line tokens place)) items i past ∙ rw (at, eq-eqb (length tokens) (length tokens) refl) (ap Ok (append-nil front))
 
--- behind the last item, before the line's end
+-- a token behind the last item refuses the list
 pub operands-more : (items : List Item) (i : ℕ) (line : List ℕ) (tokens : List Token) (place : ℕ) (front : List Expression) (whole : Result (List Expression) ℕ) →
     length items ≤ i → place ≢ length tokens → behind front (operands_at (drop i items) line tokens place) ≡ whole → whole ≡ Err place
 unfolding operands_at
@@ -96,6 +96,6 @@ kinds-first (Operand kind) items (inl e) = cc
 kinds-first (Operand kind) items (inr (inl e)) = cc
 kinds-first (Operand kind) items (inr (inr e)) = cc
 
--- a mark isn't
+-- a mark isn't counted as an operand
 pub kinds-mark : (items : List Item) (i : ℕ) (d : Item) → i < length items → IsMark (get_or items i d) → length (kinds_of (drop i items)) ≡ length (kinds_of (drop (i + 1) items))
 kinds-mark items i d lt is = rw (drop_more items i d lt) (ap length (kinds-first (get_or items i d) (drop (i + 1) items) is))

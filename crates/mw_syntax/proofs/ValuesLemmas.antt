@@ -10,7 +10,7 @@ use Rattle.mw_syntax.specs.Items.{is_mark}
 use Rattle.mw_syntax.specs.Lines.{and_values, values_at}
 use Rattle.mw_syntax.proofs.ReadingLemmas.{behind, behind-with_first}
 
--- where a value may stand yet
+-- how values are read where one may stand yet
 values_at-more : (left most : ℕ) (line : List ℕ) (tokens : List Token) (place : ℕ) → left ≡ suc most → values_at left line tokens place ≡ and_values tokens (expression_at line tokens place) (values_at most line tokens)
 unfolding values_at
 values_at-more left most line tokens place is = rw is refl
@@ -25,19 +25,19 @@ pub value-refused : (left most : ℕ) (line : List ℕ) (tokens : List Token) (p
 value-refused left most line tokens place refused front whole is read same =
     sym same ∙ rw (values_at-more left most line tokens place is, read) refl
 
--- the last value
+-- the last value ends the list at the line's end
 pub value-last : (left most : ℕ) (line : List ℕ) (tokens : List Token) (place : ℕ) (r : Read) (front : List Expression) (whole : Result (List Expression) ℕ) →
     left ≡ suc most → expression_at line tokens place ≡ Ok r → r.next ≡ length tokens → behind front (values_at left line tokens place) ≡ whole → whole ≡ Ok (front ++ r.expression ∷ [])
 value-last left most line tokens place r front whole is read at same =
     sym same ∙ rw (values_at-more left most line tokens place is, read, eq-eqb r.next (length tokens) at) refl
 
--- something else than a comma stands behind a value
+-- something else than a comma behind a value refuses the list
 pub value-alone : (left most : ℕ) (line : List ℕ) (tokens : List Token) (place : ℕ) (r : Read) (front : List Expression) (whole : Result (List Expression) ℕ) →
     left ≡ suc most → expression_at line tokens place ≡ Ok r → r.next ≢ length tokens → is_mark Comma (kind_at tokens r.next) ≡ false → behind front (values_at left line tokens place) ≡ whole → whole ≡ Err r.next
 value-alone left most line tokens place r front whole is read at mark same =
     sym same ∙ rw (values_at-more left most line tokens place is, read, ne_eqb r.next (length tokens) at, mark) refl
 
--- a comma stands behind a value
+-- behind a value and a comma the other values are read
 pub value-more : (left most : ℕ) (line : List ℕ) (tokens : List Token) (place : ℕ) (r : Read) (front : List Expression) (whole : Result (List Expression) ℕ) →
     left ≡ suc most → expression_at line tokens place ≡ Ok r → r.next ≢ length tokens → is_mark Comma (kind_at tokens r.next) ≡ true → behind front (values_at left line tokens place) ≡ whole → behind (front ++ r.expression ∷ []) (values_at most line tokens (r.next + 1)) ≡ whole
 value-more left most line tokens place r front whole is read at mark same =
@@ -45,7 +45,7 @@ value-more left most line tokens place r front whole is read at mark same =
     ∙ sym (rw (values_at-more left most line tokens place is, read, ne_eqb r.next (length tokens) at, mark) refl)
     ∙ same
 
--- no value may stand any more
+-- where no value may stand any more, the list is refused
 pub values-end : (left : ℕ) (line : List ℕ) (tokens : List Token) (place : ℕ) (front : List Expression) (whole : Result (List Expression) ℕ) →
     left ≡ 0 → behind front (values_at left line tokens place) ≡ whole → whole ≡ Err place
 unfolding values_at

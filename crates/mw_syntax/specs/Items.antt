@@ -125,7 +125,7 @@ abbrev pub operand_at : Kind → List ℕ → List Token → ℕ → Result Read
 operand_at Register line tokens place = register_or line tokens place (register_in line (slice_get tokens place))
 operand_at other line tokens place = expression_at line tokens place
 
--- a mark stands there
+-- a token that may be there is this mark
 abbrev pub is_mark : Item → Option TokenKind → Bool
 is_mark Comma (Some CommaToken) = true
 is_mark Open (Some OpenToken) = true

@@ -7,7 +7,7 @@ pub enum Base {
     Negative(u64),
     /// A label.
     Name {
-        /// How many bytes of the line stand before its name.
+        /// How many bytes of the line stand before the label's name.
         from: u32,
         /// How many bytes of the line stand before the name's end.
         to: u32,
@@ -16,7 +16,7 @@ pub enum Base {
     Here,
 }
 
-/// What stands behind it.
+/// What stands behind the base of an expression.
 #[derive(Clone, Copy, Debug, PartialEq, Eq)]
 pub enum Addend {
     /// Nothing.
@@ -30,11 +30,11 @@ pub enum Addend {
 /// An expression of a line.
 #[derive(Clone, Copy, Debug, PartialEq, Eq)]
 pub struct Expression {
-    /// The column of its first token.
+    /// The column of the expression's first token.
     pub column: u32,
-    /// What it begins with.
+    /// What the expression begins with.
     pub base: Base,
-    /// What stands behind it.
+    /// What stands behind the base.
     pub addend: Addend,
 }
 
@@ -59,6 +59,6 @@ impl Default for Expression {
 pub struct Read {
     /// The expression.
     pub expression: Expression,
-    /// How many tokens of the line stand before the one behind it.
+    /// How many tokens of the line stand before the one behind the expression.
     pub next: usize,
 }

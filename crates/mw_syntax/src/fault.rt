@@ -2,7 +2,7 @@
 /// others are the assembler's.
 #[derive(Clone, Copy, Debug, PartialEq, Eq)]
 pub enum What {
-    /// No token stands there.
+    /// A byte at which no token stands.
     Token,
     /// An unknown name or directive.
     Name,
@@ -31,8 +31,8 @@ pub struct Refusal {
 /// Why a line isn't read.
 #[derive(Clone, Copy, Debug, PartialEq, Eq)]
 pub enum LineFault {
-    /// It is refused.
+    /// The line is refused.
     Refused(Refusal),
-    /// There was no memory for it.
+    /// There was no memory for the line.
     NoMemory,
 }

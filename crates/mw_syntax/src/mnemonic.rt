@@ -1,7 +1,7 @@
 /// How the operands that are written become those of the row.
 #[derive(Clone, Copy, Debug, PartialEq, Eq)]
 pub enum Pattern {
-    /// They are those of the row.
+    /// The operands that are written are those of the row.
     Row,
     /// `li RT,SI`: RA is 0.
     Li,
@@ -22,16 +22,16 @@ pub enum Pattern {
 /// What a mnemonic means.
 #[derive(Clone, Copy, Debug, PartialEq, Eq)]
 pub struct Mnemonic {
-    /// The place of its row in the table of instructions.
+    /// The place of the mnemonic's row in the table of instructions.
     pub row: u16,
-    /// OE=1: it has the ending `o`.
+    /// OE=1: the mnemonic has the ending `o`.
     pub oe: bool,
-    /// Rc=1: it has the ending `.`.
+    /// Rc=1: the mnemonic has the ending `.`.
     pub rc: bool,
-    /// AA=1: it has the ending `a`.
+    /// AA=1: the mnemonic has the ending `a`.
     pub aa: bool,
-    /// LK=1: it has the ending `l`.
+    /// LK=1: the mnemonic has the ending `l`.
     pub lk: bool,
-    /// How its operands are written.
+    /// How the mnemonic's operands are written.
     pub pattern: Pattern,
 }

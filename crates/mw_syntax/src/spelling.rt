@@ -12,7 +12,7 @@ use std::cmp::Ordering;
 pub struct Spelled {
     /// The name, in lower case.
     pub name: &'static str,
-    /// What it means.
+    /// What the name means.
     pub mnemonic: Mnemonic,
 }
 

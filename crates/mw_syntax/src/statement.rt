@@ -19,13 +19,13 @@ pub enum Unit {
 /// A statement. Columns are counted from 1.
 #[derive(Drop)]
 pub enum Statement {
-    /// None.
+    /// No statement.
     Nothing,
     /// `.org`: the address moves up.
     Org {
         /// The column of `.org`.
         name: u32,
-        /// To where.
+        /// The address to move up to.
         to: Expression,
     },
     /// Data.
@@ -51,7 +51,7 @@ pub enum Statement {
 /// A label: its name is the line's bytes from `from` to `to`.
 #[derive(Clone, Copy, Debug, PartialEq, Eq)]
 pub struct Label {
-    /// How many bytes of the line stand before its name.
+    /// How many bytes of the line stand before the label's name.
     pub from: u32,
     /// How many bytes of the line stand before the name's end.
     pub to: u32,

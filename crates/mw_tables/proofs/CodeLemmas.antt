@@ -53,11 +53,11 @@ gathered-code code f low middle high test p q r =
     ∙ ap (λ n. bit_or (slot code f.low) (bit_or (slot code f.middle) (n * 2 ^ f.middle.width % 2 ^ 64) * 2 ^ f.low.width % 2 ^ 64)) r
     ∙ joined-three (slot code f.low) (slot code f.middle) (slot code f.high) f.low.width f.middle.width f.high.width (slot-lt code f.low) (slot-lt code f.middle) (slot-lt code f.high) (omega arith)
 
--- bits of a field, shifted
+-- the bits of a field, shifted, are below the power of their number and the shift
 pub shifted-below : (f : Field) (n : ℕ) → n < 2 ^ width_of f → n * 2 ^ f.shift < 2 ^ (width_of f + f.shift)
 shifted-below f n below = shl_below n (width_of f) f.shift below
 
--- they have at most 62 bits
+-- the bits of a readable field, shifted, are at most 62
 pub shifted-narrow : (f : Field) (n : ℕ) → is_readable f ≡ true → n < 2 ^ width_of f → n * 2 ^ f.shift < 2 ^ 62
 shifted-narrow f n test below =
     let narrow = is_readable-narrow f test in
@@ -65,6 +65,6 @@ shifted-narrow f n test below =
     let here = shifted-below f n below in
     omega (arith, most, here)
 
--- so the shift loses none
+-- the shift of a readable field loses no bits
 pub shifted-whole : (f : Field) (n : ℕ) → is_readable f ≡ true → n < 2 ^ width_of f → n * 2 ^ f.shift % 2 ^ 64 ≡ n * 2 ^ f.shift
 shifted-whole f n test below = let small = shifted-narrow f n test below in omega arith

@@ -205,20 +205,20 @@ pub operands_in-HasOperands : (code : ℕ) (fs : List Field) → HasOperands fs 
 operands_in-HasOperands code [] = tt
 operands_in-HasOperands code (f ∷ fs) = (operand_in-InRange code f, operands_in-HasOperands code fs)
 
--- operands of fields and of more fields
+-- operands that fields can hold, and operands that more fields can hold, together
 pub HasOperands-append : (fs gs : List Field) (xs ys : List ℤ) → HasOperands fs xs → HasOperands gs ys → HasOperands (fs ++ gs) (xs ++ ys)
 HasOperands-append [] gs [] ys first second = second
 HasOperands-append [] gs (x ∷ xs) ys first second = absurd first
 HasOperands-append (f ∷ fs) gs [] ys first second = absurd first
 HasOperands-append (f ∷ fs) gs (x ∷ xs) ys first second = (first.0, HasOperands-append fs gs xs ys first.1 second)
 
--- the first ones of them
+-- the first fields can hold the first operands
 pub HasOperands-take : (fs gs : List Field) (zs : List ℤ) → HasOperands (fs ++ gs) zs → HasOperands fs (take (length fs) zs)
 HasOperands-take [] gs zs has = tt
 HasOperands-take (f ∷ fs) gs [] has = absurd has
 HasOperands-take (f ∷ fs) gs (z ∷ zs) has = (has.0, HasOperands-take fs gs zs has.1)
 
--- the others
+-- the last fields can hold the last operands
 pub HasOperands-drop : (fs gs : List Field) (zs : List ℤ) → HasOperands (fs ++ gs) zs → HasOperands gs (drop (length fs) zs)
 HasOperands-drop [] gs zs has = has
 HasOperands-drop (f ∷ fs) gs [] has = absurd has
@@ -231,7 +231,7 @@ HasOperands-length [] (z ∷ zs) has = absurd has
 HasOperands-length (f ∷ fs) [] has = absurd has
 HasOperands-length (f ∷ fs) (z ∷ zs) has = ap suc (HasOperands-length fs zs has.1)
 
--- a list that is cut where the fields are
+-- operands that are cut where the fields are cut are held in both parts
 pub HasOperands-split : (fs gs : List Field) (xs ys : List ℤ) → length xs ≡ length fs → HasOperands (fs ++ gs) (xs ++ ys) → HasOperands fs xs × HasOperands gs ys
 HasOperands-split [] gs [] ys same has = (tt, has)
 HasOperands-split [] gs (x ∷ xs) ys same has = absurd (omega arith)
@@ -239,6 +239,6 @@ HasOperands-split (f ∷ fs) gs [] ys same has = absurd (omega arith)
 HasOperands-split (f ∷ fs) gs (x ∷ xs) ys same has =
     let rest = HasOperands-split fs gs xs ys (omega arith) has.1 in ((has.0, rest.0), rest.1)
 
--- the operands of fields and of more fields
+-- the operands that a code has in fields and in more fields
 pub operands_in-append : (code : ℕ) (fs gs : List Field) → operands_in code (fs ++ gs) ≡ operands_in code fs ++ operands_in code gs
 operands_in-append code fs gs = map-append (operand_in code) fs gs

@@ -61,7 +61,7 @@ position_from-place (r ∷ rs) from kind word (suc k) apart there =
     ∙ position_from-place rs (from + 1) kind word k (and_parts _ _ apart).1 there
     ∙ ap Some next
 
--- there is none where no row matches
+-- there is no place of a row that matches where no row matches
 position_from-no_place : (rows : List TableRow) (from : ℕ) (kind : PrefixKind) (word : ℕ) → ((place : ℕ) → MatchesAt rows kind word place → ⊥) → position_from (matches kind word) from rows ≡ None
 position_from-no_place [] from kind word none = refl
 position_from-no_place (r ∷ rs) from kind word none =
@@ -99,7 +99,7 @@ table-AreApart kind word a b p q =
 pub MatchesAt-row : (kind : PrefixKind) (word place : ℕ) (row : TableRow) → slice_get table place ≡ Some row → matches kind word row ≡ true → MatchesAt table kind word place
 MatchesAt-row kind word place row there m = subst (λ o. IsSomeAnd o (λ r. IsTrue (matches kind word r))) (sym there) m
 
--- and so its place is the word's
+-- the place of a row that matches is the word's place
 pub row_place-from_row : (kind : PrefixKind) (word place : ℕ) (row : TableRow) → slice_get table place ≡ Some row → matches kind word row ≡ true → row_place kind word ≡ Some place
 row_place-from_row kind word place row there m = row_place-from_place kind word place (MatchesAt-row kind word place row there m)
 

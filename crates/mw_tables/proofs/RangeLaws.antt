@@ -15,7 +15,7 @@ pub InRange-unsigned : (f : Field) (z : ℤ) → f.signed ≡ false → f.shift 
 InRange-unsigned f z unsigned still within =
     (within.0, within.1, within.2 ∙ operand_from-unsigned f within.0 unsigned ∙ ap pos (unshifted within.0 f.shift still))
 
--- an unsigned number is one
+-- an unsigned number of so many bits is in the range of an unsigned field of as many
 pub unsigned-InRange : (f : Field) (z : ℤ) → f.signed ≡ false → f.shift ≡ 0 → IsUnsigned (width_of f) z → InRange f z
 unsigned-InRange f z unsigned still is =
     (is.0, is.1, is.2 ∙ sym (ap pos (unshifted is.0 f.shift still)) ∙ sym (operand_from-unsigned f is.0 unsigned))

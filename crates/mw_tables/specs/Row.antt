@@ -36,7 +36,7 @@ abbrev pub mask_of : List Fixed → ℕ
 mask_of [] = 0
 mask_of (f ∷ fs) = ones_of f + mask_of fs
 
--- what a word has under that mask
+-- what a word has under the mask of parts that don't overlap
 abbrev pub value_of : List Fixed → ℕ
 value_of [] = 0
 value_of (f ∷ fs) = f.number * 2 ^ (31 - f.last) + value_of fs
@@ -48,7 +48,7 @@ prefix_mask Mls = mask_of (record { first = 0; last = 8; number = 0 } ∷ [])
 prefix_mask Eight = mask_of (record { first = 0; last = 8; number = 0 } ∷ [])
 prefix_mask Nop = mask_of (record { first = 0; last = 31; number = 0 } ∷ [])
 
--- what it has there: primary opcode 1, the type in bits 6 and 7, and a bit 8 that is 0
+-- what a prefix of this kind has in the bits that it fixes: primary opcode 1, the type in bits 6 and 7, and a bit 8 that is 0
 abbrev pub prefix_value : PrefixKind → ℕ
 prefix_value Plain = 0
 prefix_value Mls = value_of (record { first = 0; last = 5; number = 1 } ∷ record { first = 6; last = 7; number = 2 } ∷ [])

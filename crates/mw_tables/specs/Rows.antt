@@ -15,7 +15,7 @@ pub record Forms : Type 0 where
   pub links : Bool
   pub absolute : Bool
 
--- none
+-- no form beside the plain one
 abbrev pub plain_only : Forms
 plain_only = record { oe = false; rc = false; links = false; absolute = false }
 

@@ -37,7 +37,7 @@ fields_apart used (f ∷ fs) = pieces_apart used (pieces_of f) && fields_apart (
 abbrev pub fixed_mask : TableRow → ℕ
 fixed_mask row = prefix_mask row.prefix * 2 ^ 32 + row.mask
 
--- what they are
+-- what the bits are that a row fixes in the code
 abbrev pub fixed_value : TableRow → ℕ
 fixed_value row = prefix_value row.prefix * 2 ^ 32 + row.value
 

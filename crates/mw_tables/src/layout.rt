@@ -3,7 +3,7 @@
 pub struct Piece {
     /// How many bits stand to the right of the piece.
     pub low: u32,
-    /// How many bits it has.
+    /// How many bits the piece has.
     pub width: u32,
 }
 

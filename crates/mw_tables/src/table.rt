@@ -27,7 +27,7 @@ macro_rules! mask {
     (SC) => { 0x3f << 26 | 1 << 1 }; // a bit 30 that is 1
 }
 
-/// What a word has there, from the primary opcode and the extended code.
+/// What a word has in the bits that a format fixes, from the primary opcode and the extended code.
 #[rattlefmt::skip]
 macro_rules! value {
     (D $opcode:literal) => { $opcode << 26 };

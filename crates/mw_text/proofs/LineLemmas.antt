@@ -13,12 +13,12 @@ abbrev pub with_tokens : List Token → Result (List Token) ℕ → Result (List
 with_tokens tokens (Ok others) = Ok (tokens ++ others)
 with_tokens tokens (Err column) = Err column
 
--- one token more in front
+-- a token is put behind tokens, or in front of the tokens behind them
 with_tokens-push : (tokens : List Token) (token : Token) (others : Result (List Token) ℕ) → with_tokens (tokens ++ token ∷ []) others ≡ with_tokens tokens (with_first token others)
 with_tokens-push tokens token (Ok others) = ap (λ (all : List Token). Ok all) (append_assoc tokens (token ∷ []) others)
 with_tokens-push tokens token (Err column) = refl
 
--- no token in front
+-- tokens in front of none are the tokens
 with_tokens-none : (tokens : List Token) → with_tokens tokens (Ok []) ≡ Ok tokens
 with_tokens-none tokens = ap (λ (all : List Token). Ok all) (append-nil tokens)
 
@@ -38,7 +38,7 @@ tokens_from-front [] piece place size some is sized = absurd (omega arith)
 tokens_from-front (byte ∷ rest) piece place size some is sized =
     rw (is, sized) (ap (λ others. in_front piece place others) (tokens_from-skip rest (more_of piece) (place + 1) ∙ ap (λ at. tokens_from (drop (more_of piece) rest) 0 at) (omega arith)))
 
--- the same at a place of a line
+-- the piece at a place of a line, and what is behind it
 front : (line : List ℕ) (at size : ℕ) (piece : Piece) → at < length line → piece ≡ piece_at (take (length line - at) (drop at line)) → size ≡ suc (more_of piece) → tokens_from (drop at line) 0 at ≡ in_front piece at (tokens_from (drop (at + size) line) 0 (at + size))
 front line at size piece within is sized =
     let here : piece_at (drop at line) ≡ piece = ap piece_at (sym (take_rest line at)) ∙ sym is in
@@ -56,17 +56,17 @@ over-token line tokens kind at size whole within is some same =
     with_tokens-push tokens _ _
     ∙ ap (λ others. with_tokens tokens others) (sym (front line at size (Found kind size) within is (omega arith))) ∙ same
 
--- a comment ends the line
+-- a comment ends the tokens of a line
 pub at-comment : (line : List ℕ) (tokens : List Token) (at : ℕ) (whole : Result (List Token) ℕ) → at < length line → Comment ≡ piece_at (take (length line - at) (drop at line)) → with_tokens tokens (tokens_from (drop at line) 0 at) ≡ whole → whole ≡ Ok tokens
 at-comment line tokens at whole within is same =
     sym same ∙ ap (λ others. with_tokens tokens others) (front line at 1 Comment within is refl) ∙ with_tokens-none tokens
 
--- a bad byte refuses it
+-- a bad byte refuses the line
 pub at-bad : (line : List ℕ) (tokens : List Token) (at : ℕ) (whole : Result (List Token) ℕ) → at < length line → Bad ≡ piece_at (take (length line - at) (drop at line)) → with_tokens tokens (tokens_from (drop at line) 0 at) ≡ whole → whole ≡ Err (at + 1)
 at-bad line tokens at whole within is same =
     sym same ∙ ap (λ others. with_tokens tokens others) (front line at 1 Bad within is refl)
 
--- no byte is left
+-- where no byte is left the tokens are whole
 pub at-end : (line : List ℕ) (tokens : List Token) (at : ℕ) (whole : Result (List Token) ℕ) → length line ≤ at → with_tokens tokens (tokens_from (drop at line) 0 at) ≡ whole → whole ≡ Ok tokens
 unfolding tokens_from
 at-end line tokens at whole past same =

@@ -18,7 +18,7 @@ use Rattle.mw_text.proofs.TokenLemmas.{tokens_of-tokens}
 use Rattle.mw_text.specs.Pieces.{begins_hexadecimal, begins_word, decimal_piece, hexadecimal_piece, is_blank, is_of_word, mark_piece, number_piece, piece_at}
 use Rattle.mw_text.specs.Texts.{is_decimal, is_hexadecimal, is_mark, is_token, is_word, AreLongest, IsLongest}
 
--- more bytes than those of the front don't all pass
+-- more bytes than those of a front that passes don't all pass
 run-more : (p : ℕ → Bool) (xs : List ℕ) (m : ℕ) → prefix_len p xs < m → m ≤ length xs → list_all p (take m xs) ≡ false
 run-more p [] m above within = absurd (omega arith)
 run-more p (x ∷ xs) zero above within = absurd (omega arith)
@@ -66,7 +66,7 @@ hexadecimal-front (suc (suc zero)) rest some fails = and-right _ (is_ascii_hexdi
 hexadecimal-front (suc (suc (suc m))) rest some fails =
     rw (front-byte (suc (suc (suc m))) 0 rest (omega arith), front-byte (suc (suc (suc m))) 1 rest (omega arith), front-byte (suc (suc (suc m))) 2 rest (omega arith)) fails
 
--- a front is none of the four
+-- a front of two bytes or more is no word where no word begins
 not-word : (m : ℕ) (rest : List ℕ) → 2 ≤ m → begins_word rest ≡ false → is_word (take m rest) ≡ false
 not-word m rest some fails = and-left (begins_word (take m rest)) _ (word-front m rest some ∙ fails)
 
@@ -93,7 +93,7 @@ one-digit (byte ∷ rest) fails = let behind = no-digit rest fails in grind (ari
 abbrev IsNoMore : List ℕ → ℕ → Type 0
 IsNoMore rest size = (more : ℕ) → size < more → more ≤ length rest → is_token (take more rest) ≡ false
 
--- no more bytes than a word's
+-- no more bytes than those of a word at the front are a token
 word-longest : (rest : List ℕ) → 1 ≤ prefix_len is_of_word rest → begins_word rest ≡ true → IsNoMore rest (prefix_len is_of_word rest)
 word-longest rest some does more above within =
     let first : is_ascii_digit (slice_index rest 0) ≡ false = grind (arith, nat_tests) in
@@ -103,13 +103,13 @@ word-longest rest some does more above within =
     (not-hexadecimal more rest (omega arith) number)
     (not-mark more rest (omega arith) within)
 
--- no more bytes than a decimal number's
+-- no more bytes than those of a decimal number at the front are a token
 decimal-longest : (rest : List ℕ) → 1 ≤ prefix_len is_ascii_digit rest → begins_word rest ≡ false → begins_hexadecimal rest ≡ false → IsNoMore rest (prefix_len is_ascii_digit rest)
 decimal-longest rest some word number more above within =
     none _ _ _ _ (not-word more rest (omega arith) word) (not-decimal more rest above within)
     (not-hexadecimal more rest (omega arith) number) (not-mark more rest (omega arith) within)
 
--- no more bytes than a hexadecimal number's
+-- no more bytes than those of a hexadecimal number at the front are a token
 hexadecimal-longest : (rest : List ℕ) → begins_word rest ≡ false → begins_hexadecimal rest ≡ true → IsNoMore rest (2 + prefix_len is_ascii_hexdigit (drop 2 rest))
 hexadecimal-longest rest word does more above within =
     let second : is_ascii_digit (slice_index rest 1) ≡ false = grind (arith, nat_tests) in
@@ -121,7 +121,7 @@ hexadecimal-longest rest word does more above within =
     (and-right (begins_hexadecimal (take more rest)) _ (ap (λ (bytes : List ℕ). list_all is_ascii_hexdigit bytes) same ∙ behind))
     (not-mark more rest (omega arith) within)
 
--- no more bytes than a mark's
+-- no more bytes than the one of a mark at the front are a token
 mark-longest : (rest : List ℕ) → begins_word rest ≡ false → begins_hexadecimal rest ≡ false → is_ascii_digit (slice_index rest 0) ≡ false → IsNoMore rest 1
 mark-longest rest word number digit more above within =
     none _ _ _ _ (not-word more rest (omega arith) word)
@@ -211,14 +211,14 @@ hexadecimal-is rest does =
     let digits : list_all is_ascii_hexdigit (drop 2 (take (2 + k) rest)) ≡ true = ap (λ (bytes : List ℕ). list_all is_ascii_hexdigit bytes) (drop-take 2 k rest) ∙ front-passes is_ascii_hexdigit (drop 2 rest) in
     is-hexadecimal (take (2 + k) rest) (both _ _ begins digits)
 
--- no more bytes than a token's, where a piece is one
+-- where a piece is a token, no more bytes than the token's are one
 abbrev IsLongestPiece : List ℕ → Piece → Type 0
 IsLongestPiece rest (Found kind length) = IsLongest rest length
 IsLongestPiece rest Blank = Unit {0}
 IsLongestPiece rest Comment = Unit {0}
 IsLongestPiece rest Bad = Unit {0}
 
--- one piece or the other
+-- one of two pieces has no more bytes than its token's, where each has none
 choice : (rest : List ℕ) (b : Bool) (p q : Piece) → (b ≡ true → IsLongestPiece rest p) → (b ≡ false → IsLongestPiece rest q) → IsLongestPiece rest (if b then p else q)
 choice rest true p q holds fails = holds refl
 choice rest false p q holds fails = fails refl
@@ -276,7 +276,7 @@ longest-piece rest =
 pub piece_at-longest : (rest : List ℕ) (kind : TokenKind) (size : ℕ) → piece_at rest ≡ Found kind size → IsLongest rest size
 piece_at-longest rest kind size is = subst (IsLongestPiece rest) is (longest-piece rest)
 
--- the same of each of a line's tokens
+-- no more bytes at the place of one of a line's tokens than the token's are a token
 longest-at : (line : List ℕ) (low : ℕ) (tokens : List Token) → AreTokens line low tokens → (k : ℕ) (d : Token) → k < length tokens → IsLongest (drop (get_or tokens k d).from line) ((get_or tokens k d).to - (get_or tokens k d).from)
 longest-at line low [] are k d below = absurd (omega arith)
 longest-at line low (token ∷ others) are zero d below = piece_at-longest (drop token.from line) token.kind _ are.1

@@ -20,12 +20,12 @@ Tells byte Comment = (byte == 35) ≡ true
 Tells byte (Found kind length) = Unit {0}
 Tells byte Bad = Unit {0}
 
--- one piece or the other
+-- one of two pieces tells of a byte what each tells
 choice : (byte : ℕ) (b : Bool) (p q : Piece) → (b ≡ true → Tells byte p) → (b ≡ false → Tells byte q) → Tells byte (if b then p else q)
 choice byte true p q holds fails = holds refl
 choice byte false p q holds fails = fails refl
 
--- a number is neither
+-- a number is neither a blank nor a comment
 number-tells : (byte length value : ℕ) → Tells byte (number_piece length value)
 number-tells byte length value = choice byte _ (Found (Number value) length) Bad (λ _. tt) (λ _. tt)
 
@@ -37,7 +37,7 @@ hexadecimal-tells : (byte : ℕ) (rest : List ℕ) → Tells byte (hexadecimal_p
 unfolding hexadecimal_piece
 hexadecimal-tells byte rest = number-tells byte _ _
 
--- nor is a mark
+-- a mark is neither a blank nor a comment
 mark-tells : (byte : ℕ) → Tells byte (mark_piece byte)
 mark-tells byte = search rules
 

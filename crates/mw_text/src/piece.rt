@@ -15,9 +15,9 @@ pub enum Piece {
     Comment,
     /// A token.
     Found {
-        /// What it is.
+        /// What the token is.
         kind: TokenKind,
-        /// How many bytes it has.
+        /// How many bytes the token has.
         length: usize,
     },
     /// A byte at which no token stands, or a number above 64 bits.

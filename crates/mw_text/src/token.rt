@@ -24,10 +24,10 @@ pub enum TokenKind {
 /// A token of a line.
 #[derive(Clone, Copy, Debug, PartialEq, Eq)]
 pub struct Token {
-    /// What it is.
+    /// What the token is.
     pub kind: TokenKind,
-    /// How many bytes of the line stand before it.
+    /// How many bytes of the line stand before the token.
     pub from: u32,
-    /// How many bytes of the line stand before its end: its text is `line[from..to]`.
+    /// How many bytes of the line stand before the token's end: its text is `line[from..to]`.
     pub to: u32,
 }

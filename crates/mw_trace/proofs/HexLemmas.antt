@@ -11,7 +11,7 @@ same_digits : ℕ → Bool
 same_digits zero = true
 same_digits (suc n) = eqb (slice_index lower_digits n) (hex_digit n) && same_digits n
 
--- one of them
+-- a digit below the bound is that of the crate hex
 same_digit : (n d : ℕ) → same_digits n ≡ true → d < n → slice_index lower_digits d ≡ hex_digit d
 unfolding same_digits
 same_digit zero d h lt = absurd (omega arith)
@@ -24,7 +24,7 @@ same_digit (suc n) d h lt =
           rw e (eqb-true _ _ parts.0)
     ]
 
--- each digit is the crate hex's
+-- each of the sixteen digits is that of the crate hex
 digit-lower : (d : ℕ) → d < 16 → slice_index lower_digits d ≡ hex_digit d
 unfolding same_digits
 digit-lower d small = same_digit 16 d refl small

@@ -35,7 +35,7 @@ above-join (word ∷ []) are = above-lower 10 32 (omega arith) word are.0
 above-join (word ∷ next ∷ words) are =
     above-append 10 word (32 ∷ join_with_byte 32 (next ∷ words)) (above-lower 10 32 (omega arith) word are.0) (omega arith, above-join (next ∷ words) are.1)
 
--- one byte more of a piece
+-- a piece with one byte more, in front of the other bytes
 longer : (piece : List ℕ) (x : ℕ) (xs : List ℕ) → (piece ++ x ∷ []) ++ xs ≡ piece ++ x ∷ xs
 longer piece x xs = append_assoc piece (x ∷ []) xs
 
@@ -43,7 +43,7 @@ longer piece x xs = append_assoc piece (x ∷ []) xs
 other : (bound x : ℕ) → bound < x → eqb x bound ≡ false
 other bound x above = ne_eqb x bound (λ e. absurd (omega arith))
 
--- a word up to a blank
+-- the pieces of a word, a blank and a rest
 pieces-cut : (piece word rest : List ℕ) → AreAbove 32 word → pieces_from 32 piece (word ++ 32 ∷ rest) ≡ (piece ++ word) ∷ pieces_from 32 [] rest
 pieces-cut piece [] rest above = ap (λ p. p ∷ pieces_from 32 [] rest) (sym (append-nil piece))
 pieces-cut piece (x ∷ xs) rest above =
@@ -51,7 +51,7 @@ pieces-cut piece (x ∷ xs) rest above =
     ∙ pieces-cut (piece ++ x ∷ []) xs rest above.1
     ∙ ap (λ p. p ∷ pieces_from 32 [] rest) (longer piece x xs)
 
--- the last word
+-- the pieces of a last word
 pieces-last : (piece word : List ℕ) → AreAbove 32 word → pieces_from 32 piece word ≡ (piece ++ word) ∷ []
 pieces-last piece [] above = ap (λ p. p ∷ []) (sym (append-nil piece))
 pieces-last piece (x ∷ xs) above =

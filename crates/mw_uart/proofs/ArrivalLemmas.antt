@@ -10,7 +10,7 @@ pub arrived_more : (cycle : ℕ) (pair : ℕ × ℕ) (rest : List (ℕ × ℕ)) 
 unfolding arrived_by
 arrived_more cycle pair rest early = cond-true (nat_le pair.0 cycle) (1 + arrived_by cycle rest) 0 (le-leb pair.0 cycle early)
 
--- it hasn't
+-- the script's next byte hasn't arrived
 pub arrived_none : (cycle : ℕ) (pair : ℕ × ℕ) (rest : List (ℕ × ℕ)) → cycle < pair.0 → arrived_by cycle (pair ∷ rest) ≡ 0
 unfolding arrived_by
 arrived_none cycle pair rest late = cond-false (nat_le pair.0 cycle) (1 + arrived_by cycle rest) 0 (lt-leb pair.0 cycle late)
@@ -21,7 +21,7 @@ take_then zero xs ys = refl
 take_then (suc k) [] ys = refl
 take_then (suc k) (x ∷ xs) ys = ap (λ (zs : List ℕ). x ∷ zs) (take_then k xs ys)
 
--- none is left
+-- no byte of an empty script has arrived
 pub arrived_nil : (cycle : ℕ) → arrived_by cycle [] ≡ 0
 unfolding arrived_by
 arrived_nil cycle = refl
@@ -60,14 +60,14 @@ received-more cycle i pending now next whole within early few is same =
     ∙ sym (ap (λ (xs : List ℕ). take 16 (now ++ xs)) (at_drop_more (arrivals cycle) pending i (0, 0) within))
     ∙ same
 
--- nothing more has arrived
+-- the received bytes are whole where nothing more has arrived
 received-all : (n : ℕ) (pending : List (ℕ × ℕ)) (now whole : List ℕ) → n ≡ 0 → length now ≤ 16 → take 16 (now ++ map (λ p. p.1) (take n pending)) ≡ whole → now ≡ whole
 received-all n pending now whole none few same =
     sym (ap (take 16) (append-nil now) ∙ take_all 16 now few)
     ∙ sym (ap (λ (k : ℕ). take 16 (now ++ map (λ p. p.1) (take k pending))) none)
     ∙ same
 
--- since the next byte is late
+-- the arrived bytes are all counted, since the next byte is late
 pub late-count : (cycle i : ℕ) (pending : List (ℕ × ℕ)) (whole : ℕ) → i < length pending → cycle < (get_or pending i (0, 0)).0 → i + arrived_by cycle (drop i pending) ≡ whole → i ≡ whole
 late-count cycle i pending whole within late is =
     let here = at_drop_more (arrived_by cycle) pending i (0, 0) within in
@@ -80,7 +80,7 @@ late-received cycle i pending now whole within late few same =
     let none = arrived_none cycle (get_or pending i (0, 0)) (drop (i + 1) pending) late in
     received-all (arrived_by cycle (drop i pending)) (drop i pending) now whole (here ∙ none) few same
 
--- or since there is none
+-- the arrived bytes are all counted, since there is no next byte
 pub end-count : (cycle i : ℕ) (pending : List (ℕ × ℕ)) (whole : ℕ) → length pending ≤ i → i + arrived_by cycle (drop i pending) ≡ whole → i ≡ whole
 end-count cycle i pending whole past is =
     let here = at_drop_all (arrived_by cycle) pending i past in

@@ -188,12 +188,12 @@ cycle-after_load uart offset = elim (offset == 8) as (λ (b : Bool). (cond b (re
   | false ↦ refl
 ]
 
--- and so does a byte that is to be sent
+-- a byte that is to be sent keeps the cycle
 cycle-with_tx : (uart : UartData) (byte : ℕ) → (with_tx uart byte).cycle ≡ uart.cycle
 unfolding with_tx
 cycle-with_tx uart byte = cond_both (nat_lt (length uart.sending) 16) _ _ (λ (u : UartData). u.cycle ≡ uart.cycle) (λ _. refl) (λ _. refl)
 
--- and each store
+-- a store keeps the cycle
 pub cycle-after_store : (uart : UartData) (offset : ℕ) (bytes : List ℕ) → (after_store uart offset bytes).cycle ≡ uart.cycle
 unfolding after_store with_number
 cycle-after_store uart offset bytes =
@@ -243,7 +243,7 @@ abbrev pub last_of : ℕ → List ℕ → ℕ
 last_of cycle [] = cycle
 last_of cycle (next ∷ cycles) = last_of next cycles
 
--- it isn't before the first
+-- the last of rising cycles isn't before the first
 first-last : (cycle : ℕ) (cycles : List ℕ) → Rises cycle cycles → cycle ≤ last_of cycle cycles
 first-last cycle [] r = omega arith
 first-last cycle (next ∷ cycles) r = let here = r.0 in let rest = first-last next cycles r.1 in omega arith

@@ -11,12 +11,12 @@ use Rattle.mw_uart.specs.Script.{Given, Place, line_of, lines_of, pairs_of, plac
 use Rattle.mw_uart.specs.Pairs.{RisesTo, IfBad}
 use Rattle.mw_uart.specs.Inside.{IfRefused, fault_at}
 
--- a later end
+-- cycles that rise to a number rise to a later one
 pub rises-later : (low high later : ℕ) (pairs : List (ℕ × ℕ)) → high ≤ later → RisesTo low high pairs → RisesTo low later pairs
 rises-later low high later [] after is = omega (arith, is)
 rises-later low high later (pair ∷ rest) after is = (is.0, is.1, rises-later pair.0 high later rest after is.2)
 
--- one byte more
+-- pairs that rise to a cycle do so with one byte more of that cycle
 pub rises-more : (low cycle byte : ℕ) (pairs : List (ℕ × ℕ)) → byte < 256 → RisesTo low cycle pairs → RisesTo low cycle (pairs ++ (cycle, byte) ∷ [])
 rises-more low cycle byte [] small is = (is, small, omega arith)
 rises-more low cycle byte (pair ∷ rest) small is = (is.0, is.1, rises-more pair.0 cycle byte rest small is.2)
@@ -58,17 +58,17 @@ pairs-more cycle i byte bytes front pairs more within is was grown =
     ∙ sym (map-append (λ (b : ℕ). (cycle, b)) (take i bytes) (get_or bytes i 0 ∷ []))
     ∙ ap (pairs_of cycle) (sym (take_more bytes i 0 within)))
 
--- a text that is too long
+-- a text that is too long is refused behind its first bytes
 pub script-long : (text : List ℕ) → text_limit < length text → script_of text ≡ Err (place_behind (take text_limit text))
 unfolding script_of
 script-long text long = cond-true (nat_lt text_limit (length text)) _ _ (lt-ltb text_limit (length text) long)
 
--- one that isn't
+-- a text that isn't too long is read line by line
 pub script-short : (text : List ℕ) → length text ≤ text_limit → script_of text ≡ read_from 1 0 [] (lines_of text)
 unfolding script_of
 script-short text short = cond-false (nat_lt text_limit (length text)) _ _ (le-ltb text_limit (length text) short)
 
--- a fact on the place gives another
+-- a fact on the place of a fault gives each fact that follows from it
 pub IfBad-weaker : (fault : BadScript) (P Q : Place → Type 0) → ((place : Place) → P place → Q place) → IfBad fault P → IfBad fault Q
 IfBad-weaker (Bad line column) P Q more is = more _ is
 IfBad-weaker NoRoom P Q more is = tt

@@ -43,7 +43,7 @@ is_sent waiting due period cycle some =
     counted waiting due period cycle ((cycle - due) / period) ((cycle - due) % period) (min waiting (1 + (cycle - due) / period)) late
     (div-add-mod' (cycle - due) period) (mod_below (cycle - due) period some) refl)
 
--- there is one such number
+-- only one number of bytes is sent by a cycle
 pub sent_once : (waiting due period cycle m n : ℕ) → IsSent waiting due period cycle m → IsSent waiting due period cycle n → m ≡ n
 sent_once waiting due period cycle m n a b =
     ⊎_elim
@@ -67,7 +67,7 @@ pub due_later : (waiting due period sent : ℕ) → sent < waiting → next_due 
 unfolding next_due
 due_later waiting due period sent below = cond-false (sent == waiting) 0 (due + sent * period) (ne_eqb sent waiting (λ e. omega arith))
 
--- and where none waits
+-- no byte is due where none waits
 pub due_none : (waiting due period sent : ℕ) → sent ≡ waiting → next_due waiting due period sent ≡ 0
 unfolding next_due
 due_none waiting due period sent e = cond-true (sent == waiting) 0 (due + sent * period) (eq-eqb sent waiting e)
@@ -112,7 +112,7 @@ timed sent waiting due cycle room later n period was after fits long short is =
       small = was.small;
     }
 
--- alike in each part that a cycle changes
+-- the UART's data is alike where it is alike in each part that a cycle changes
 pub same_parts : (cycle div enable : ℕ) (s t : List (ℕ × ℕ)) (r q w x o p : List ℕ) (d e : ℕ) → s ≡ t → r ≡ q → w ≡ x → d ≡ e → o ≡ p → parts cycle s r w d div enable o ≡ parts cycle t q x e div enable p
 same_parts cycle div enable s t r q w x o p d e a b f g h = rw (a, b, f, g, h) refl
 
@@ -127,7 +127,7 @@ advanced cycle later due div enable n due_next script script_next received sendi
     (dues ∙ ap (next_due (length sending) due (period_of div)) counts)
     (outputs ∙ ap (λ (k : ℕ). output ++ take k sending) counts)
 
--- the room suffices
+-- the room for output suffices for all bytes that are sent
 pub room_enough : (sent waiting due cycle room later n div : ℕ) → IsTimed sent waiting due cycle room → cycle ≤ later → later / 160 ≤ room → div < 65536 → n ≡ sent_by waiting due (period_of div) later → sent + n ≤ room
 room_enough sent waiting due cycle room later n div was after fits small e =
     let is : IsSent waiting due (160 * (div + 1)) later (sent_by waiting due (160 * (div + 1)) later) = is_sent waiting due (160 * (div + 1)) later (omega arith) in

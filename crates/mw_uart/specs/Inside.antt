@@ -25,9 +25,9 @@ with_received received byte = if nat_lt (length received) 16 then received ++ by
 
 -- the time that the output took, so that there is always room for it: how many bytes are sent, how many wait, when the first of these is sent, the cycle, and the room
 pub record IsTimed (sent waiting due cycle room : ℕ) : Type 0 where
-  -- each byte took 160 cycles
+  -- each byte that was sent took 160 cycles
   pub past : sent * 160 ≤ cycle
-  -- the next one takes 160 more
+  -- the next byte takes 160 cycles more
   pub next : 0 < waiting → 160 * (sent + 1) ≤ due
   -- a byte is sent after the longest period at the latest
   pub soon : due ≤ cycle + 10485760

@@ -31,7 +31,7 @@ loaded uart offset width = take width (drop (offset % 8) (to_le_bytes w64 (slot_
 unfoldable pub after_load : UartData → ℕ → UartData
 after_load uart offset = if offset == 8 then record uart { received = drop 1 uart.received } else uart
 
--- after a store to TX: the byte waits to be sent, or is lost where 16 wait; where it is the first, it is sent a period from now
+-- the UART after a store to TX: the byte waits to be sent, or is lost where 16 wait; where it is the first, it is sent a period from now
 unfoldable pub with_tx : UartData → ℕ → UartData
 with_tx uart byte =
     if nat_lt (length uart.sending) 16
@@ -41,7 +41,7 @@ with_tx uart byte =
     }
     else uart
 
--- after a store of a number that covers the first byte of a slot: TX takes its low byte, CLOCK_DIV 16 bits, IRQ_EN two, and all else vanishes
+-- the UART after a store of a number that covers the first byte of a slot: TX takes its low byte, CLOCK_DIV 16 bits, IRQ_EN two, and all else vanishes
 unfoldable pub with_number : UartData → ℕ → ℕ → UartData
 with_number uart offset number =
     if offset == 0 then with_tx uart (number % 2 ^ 8)

@@ -7,7 +7,7 @@ unfoldable pub arrived_by : ℕ → List (ℕ × ℕ) → ℕ
 arrived_by cycle [] = 0
 arrived_by cycle (pair ∷ rest) = if nat_le pair.0 cycle then 1 + arrived_by cycle rest else 0
 
--- these bytes, in the order of the script
+-- the script's bytes that have arrived by a cycle, in order
 abbrev pub arrivals : ℕ → List (ℕ × ℕ) → List ℕ
 arrivals cycle script = map (λ pair. pair.1) (take (arrived_by cycle script) script)
 
@@ -28,14 +28,14 @@ with_sent sent uart = record uart {
   output = uart.output ++ take sent uart.sending;
 }
 
--- with the script's bytes of a cycle and all before it received, or lost where 16 wait
+-- the UART with the script's bytes of a cycle and all before it received, or lost where 16 wait
 abbrev pub with_arrived : ℕ → UartData → UartData
 with_arrived cycle uart = record uart {
   script = drop (arrived_by cycle uart.script) uart.script;
   received = take 16 (uart.received ++ arrivals cycle uart.script);
 }
 
--- how many of its bytes are sent by a cycle
+-- how many of the UART's bytes are sent by a cycle
 abbrev pub sent_of : UartData → ℕ → ℕ
 sent_of uart cycle = sent_by (length uart.sending) uart.due (period_of uart.div) cycle
 

@@ -3,7 +3,7 @@ use Rattle.std.specs.Prelude.{ℕ, ◌+◌, ◌*◌, List, []}
 
 -- the UART's data: all that it is at a cycle
 pub record UartData : Type 0 where
-  -- the cycle that it stands at
+  -- the cycle that the UART stands at
   pub cycle : ℕ
   -- the bytes that haven't arrived yet, each behind the cycle at which it arrives
   pub script : List (ℕ × ℕ)
@@ -11,7 +11,7 @@ pub record UartData : Type 0 where
   pub received : List ℕ
   -- the bytes that wait to be sent, the oldest first
   pub sending : List ℕ
-  -- the cycle at which the first of these is sent, or 0 where none waits
+  -- the cycle at which the first byte that waits is sent, or 0 where none waits
   pub due : ℕ
   -- CLOCK_DIV
   pub div : ℕ

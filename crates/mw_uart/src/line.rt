@@ -16,7 +16,7 @@ const LAST_CYCLE: u64 = 4_000_000;
 /// What a line gives.
 #[derive(Drop)]
 pub struct Line {
-    /// Its cycle, or that of the line before where it is skipped.
+    /// The line's cycle, or that of the line before where it is skipped.
     pub cycle: u64,
     /// The bytes that arrive then, in order.
     pub bytes: Vec<u8>,
@@ -25,12 +25,12 @@ pub struct Line {
 /// Why a line gives nothing.
 #[derive(Clone, Copy)]
 pub enum LineFault {
-    /// Its first refused column, counted from 1.
+    /// The line is refused.
     Refused {
-        /// The column.
+        /// The first refused column, counted from 1.
         column: u32,
     },
-    /// There was no memory for its bytes.
+    /// There was no memory for the line's bytes.
     NoMemory,
 }
 

@@ -35,14 +35,14 @@ impl Model for Script {
 /// Why a text gives no script.
 #[derive(Clone, Copy, Debug, PartialEq, Eq)]
 pub enum BadScript {
-    /// Its first refused place.
+    /// The text is refused at this place, its first refused one.
     Bad {
         /// The line, counted from 1.
         line: u32,
         /// The column; the line's first byte is column 1.
         column: u32,
     },
-    /// There was no memory for it.
+    /// There was no memory for the script.
     NoMemory,
 }
 
@@ -187,7 +187,7 @@ impl Script {
         }
     }
 
-    /// The same script once more. The only error is want of memory.
+    /// A copy of the script. The only error is want of memory.
     pub fn copy(&self) -> Result<Script, NoMemory>
         ensures { IfOk result (λ script. script ≡ self.now) }
     {

@@ -17,17 +17,17 @@ const PLACES: usize = 16;
 /// The UART. Clauses see its data and how many bytes of output it has memory for.
 #[derive(Drop)]
 pub struct Uart {
-    /// The cycle that it stands at, counted from 0.
+    /// The cycle that the UART stands at, counted from 0.
     cycle: u64,
     /// The bytes that arrive, each behind its cycle.
     script: Script,
-    /// How many of these have arrived.
+    /// How many bytes of the script have arrived.
     next: usize,
     /// The bytes that were received and are not read yet, the oldest first.
     received: HeapCircularBuffer<u8>,
     /// The bytes that wait to be sent, the oldest first.
     sending: HeapCircularBuffer<u8>,
-    /// The cycle at which the first of these is sent, or 0 where none waits.
+    /// The cycle at which the first byte that waits is sent, or 0 where none waits.
     due: u64,
     /// CLOCK_DIV.
     div: u16,
@@ -304,7 +304,7 @@ impl Uart {
         self.output.as_slice()
     }
 
-    /// The cycle that it stands at.
+    /// The cycle that the UART stands at.
     pub fn cycle(&self) -> u64
         ensures { result ≡ self.now.uart.cycle }
     {

@@ -5,7 +5,7 @@ use Rattle.mw_xics.specs.XicsData.{XicsData}
 use Rattle.mw_xics.specs.Pending.{below, pending_of, pending_source, source_of}
 use Rattle.mw_xics.specs.Inside.{better}
 
--- it is that one where it is below CPPR, since a masked one never is
+-- the better of the two candidates is pending where it is below CPPR, since a masked one never is
 pub pending-better : (xics : XicsData) (line : Bool) → xics.cppr ≤ 255 → below xics.cppr (Some (better xics line)) ≡ pending_of xics line
 unfolding pending_of
 pending-better xics true small = grind (arith, nat_tests)
@@ -15,23 +15,23 @@ pending-better xics false small = grind (arith, nat_tests)
 IfSome-at : {A : Type 0} (o : Option A) (P : A → Type 0) (value : A) → IfSome o P → o ≡ Some value → P value
 IfSome-at {A = A} o P value is e = subst (λ (p : Option A). IfSome p P) e is
 
--- a source is at most that of line 0
+-- the source of the pending interrupt, if there is one, is at most that of line 0
 some-small : (xics : XicsData) (line : Bool) → IfSome (pending_of xics line) (λ candidate. candidate.1 ≤ source_of 0)
 unfolding pending_of
 some-small xics true = grind (arith, nat_tests)
 some-small xics false = grind (arith, nat_tests)
 
--- so the pending one is
+-- the source of an interrupt that is pending is at most that of line 0
 pub pending-small : (xics : XicsData) (line : Bool) (candidate : ℕ × ℕ) → pending_of xics line ≡ Some candidate → candidate.1 ≤ source_of 0
 pending-small xics line candidate e = IfSome-at (pending_of xics line) (λ candidate. candidate.1 ≤ source_of 0) candidate (some-small xics line) e
 
--- and the source that XIRR has
+-- the source that XIRR has is at most that of line 0
 pub source-small : (xics : XicsData) (line : Bool) → pending_source xics line ≤ source_of 0
 unfolding pending_of
 source-small xics true = grind (arith, nat_tests)
 source-small xics false = grind (arith, nat_tests)
 
--- no source is that of a line behind line 0
+-- the source of a pending interrupt isn't that of a line behind line 0
 pub no_later : (xics : XicsData) (line : Bool) (n : ℕ) → IfSome (pending_of xics line) (λ candidate. candidate.1 ≢ source_of (suc n))
 unfolding pending_of
 no_later xics true n = grind (arith, nat_tests)

@@ -9,14 +9,14 @@ pub enum Register {
     Poll,
     /// XIRR: a load accepts the pending interrupt, and a store ends one.
     Xirr,
-    /// MFRR.
+    /// MFRR, the priority of the interprocessor interrupt.
     Mfrr,
     /// The priority of a line.
     Priority {
         /// The line's number, from 0 to 15.
         number: usize,
     },
-    /// None: a load gives zeros, and a store vanishes.
+    /// No register: a load gives zeros, and a store vanishes.
     Unused,
 }
 

@@ -2,7 +2,7 @@ use Rattle.std.proofs.Common.{◌≡◌, ◌≤◌, ◌++◌, drop}
 use Rattle.mw_asm.specs.Disassembly.{operands_text}
 use Rattle.mw_asm.proofs.disassembly.add_operands.Given as goal
 
--- what is written, with the text of the items and operands that are left, is the whole
+-- the operands that are written, with the text of the items and operands that are left, are the whole text
 abbrev pub invariant-loop-item : goal.invariant-loop-item
 invariant-loop-item l = record {
   few : l.place ≤ l.item-index;

@@ -24,7 +24,7 @@ none kind word place first second leads at behind not_at not_behind =
 below : (test : Bool) (kind : PrefixKind) (word place : ℕ) → (IsTrue test ↔ MatchesAt table kind word place) → test ≡ true → place < row_count
 below test kind word place same is = MatchesAt-below kind word place (matched test kind word place same is)
 
--- and is the word's place
+-- a place that matches is the word's place
 found : (test : Bool) (kind : PrefixKind) (word place : ℕ) → (IsTrue test ↔ MatchesAt table kind word place) → test ≡ true → Some place ≡ row_place kind word
 found test kind word place same is = sym (row_place-from_place kind word place (matched test kind word place same is))
 

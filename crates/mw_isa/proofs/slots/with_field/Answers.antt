@@ -4,7 +4,7 @@ use Rattle.mw_isa.specs.Slots.{field_unit, with_digit}
 use Rattle.mw_isa.proofs.SlotLaws.{digit-fits}
 use Rattle.mw_isa.proofs.slots.with_field.Goals as goal
 
--- so does the sum that the code makes
+-- the sum that the code makes of a digit keeps to 32 bits
 sum-fits : (cr number digit x unit : ℕ) → x ≡ cr → unit ≡ field_unit number → cr < 2 ^ 32 → digit < 16 → with_digit x unit digit < 2 ^ 32
 sum-fits cr number digit x unit same at below fits = rw (same, at) (digit-fits cr number digit below fits)
 

@@ -3,7 +3,7 @@ use Rattle.mw_uart.specs.UartAt.{arrived_by, arrivals}
 use Rattle.mw_uart.specs.Inside.{IsQueue}
 use Rattle.mw_uart.proofs.uart.arrive.Given as goal
 
--- the bytes from here on give what all give
+-- the bytes that are left, received behind those so far, give what all bytes give
 abbrev pub invariant-loop-count : goal.invariant-loop-count
 invariant-loop-count l = record {
   queue : IsQueue l.received;
