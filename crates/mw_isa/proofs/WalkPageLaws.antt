@@ -2,14 +2,24 @@
 use Rattle.std.proofs.Common.{◌≡◌, ◌==◌, ℕ, zero, suc, ◌+◌, ◌-◌, ◌*◌, ◌/◌, ◌%◌, ◌^◌, ◌<◌, ◌≤◌, Bool, true, false, not, ◌&&◌, ◌||◌, cond, List, [], ◌∷◌, Option, Some, None, Result, Ok, Err, IfOk, refl, sym, ap, ◌∙◌, subst, arith, mod-lt, pow_pos}
 use Rattle.std.specs.Prelude.{nat_lt, nat_le}
 use Rattle.std.proofs.Math.Nat.{div-div-eq-div-mul}
-use Rattle.std.proofs.Math.Pow.{mod-mod-pow}
+use Rattle.std.proofs.Math.Pow.{mod-mod-pow, pow_mono}
 use Rattle.std.proofs.lemmas.Nat.{pow-add}
 use Rattle.std.proofs.lemmas.Bool.Decides.{nat_tests}
+use Rattle.mw_isa.specs.declared.access.Kind.{Kind}
+use Rattle.mw_isa.specs.declared.access.Kind.TheVariants.{Fetch, Load, Store}
+use Rattle.mw_isa.specs.declared.pages.StorageFault.{StorageFault}
+use Rattle.mw_isa.specs.declared.pages.StorageFault.TheVariants.{NotPermitted, ReferenceOrChange}
+use Rattle.mw_isa.specs.declared.regs.Regs.{Regs}
 use Rattle.mw_isa.specs.declared.walk.Leaf.{Leaf}
+use Rattle.mw_isa.specs.declared.walk.Level.{Level}
 use Rattle.mw_isa.specs.declared.walk.WalkFault.{WalkFault}
 use Rattle.mw_isa.specs.declared.walk.WalkFault.TheVariants.{Segment, NoEntry, BadTree}
 use Rattle.mw_isa.specs.Tables.{doubleword, tree_bits, is_there, is_leaf}
-use Rattle.mw_isa.specs.Walk.{Walked, Level, ended, reading, is_level, left_behind, entry_at, next_level, page_in, leaf_of, walk_behind, walk_from, root_of, is_in_tree, walk_in, is_in_table, process_at, walk_of, IsLeaf}
+use Rattle.mw_isa.specs.Walk.{Walked, ended, reading, is_level, left_behind, entry_at, next_level, page_in, leaf_of, walk_behind, walk_from, root_of, is_in_tree, walk_in, is_in_table, process_at, walk_of, IsLeaf}
+use Rattle.mw_isa.specs.Msr.{pr_place}
+use Rattle.mw_isa.specs.Pages.{page_size, IsPagewise}
+use Rattle.mw_isa.specs.Translate.{quadrant_of, permits, is_marked, real_in, translated, leaf_gives, found_by, translated_in, is_translated, untranslated, translate_of, real_found, page_real}
+use Rattle.mw_isa.specs.Xer.{has_bit}
 use Rattle.mw_isa.proofs.WalkReadLaws.{walk-leaf}
 
 -- a leaf's page has 12 bits at least
@@ -107,3 +117,49 @@ page-table false ram ea near at page e ends = refl
 pub walk-same_page : (ram : List ℕ) (prtbl pid ea near : ℕ) (page : Leaf) → ea / 4096 ≡ near / 4096 → (walk_of ram prtbl pid ea).end ≡ Ok page → walk_of ram prtbl pid near ≡ walk_of ram prtbl pid ea
 unfolding walk_of
 walk-same_page ram prtbl pid ea near page e ends = page-table (is_in_table prtbl pid) ram ea near (process_at prtbl pid) page e ends
+
+-- a real address of 60 bits, with the place of an effective one in its page
+abbrev IsBeside : ℕ → ℕ → Type 0
+IsBeside ea at = (at < 2 ^ 60) × (at % page_size ≡ ea % page_size)
+
+-- the low twelve bits of a longer remainder are those of the number
+low-same : (x left : ℕ) → 12 ≤ left → x % 2 ^ left % 4096 ≡ x % 4096
+low-same x left long =
+    let whole : left ≡ (left - 12) + 12 = omega arith in
+    ap (λ (n : ℕ). x % 2 ^ n % 4096) whole ∙ mod-mod-pow x (left - 12) 12
+
+-- a leaf puts an address so
+leaf-beside : (leaf : Leaf) (ea : ℕ) → IsLeaf leaf → IsBeside ea (real_in leaf ea)
+leaf-beside leaf ea known =
+    let least = known.least in
+    let most = known.most in
+    let low = known.low in
+    let bound : 2 ^ leaf.left ≤ 2 ^ 57 = pow_mono most in
+    let part : ea % 2 ^ leaf.left < 2 ^ leaf.left = mod-lt ea (pow_pos leaf.left) in
+    let begins : leaf.base % 4096 ≡ 0 = sym (low-same leaf.base leaf.left least) ∙ ap (λ (n : ℕ). n % 4096) known.whole in
+    let place : ea % 2 ^ leaf.left % 4096 ≡ ea % 4096 = low-same ea leaf.left least in
+    (omega arith, omega arith)
+
+gives-beside : (permitted marked : Bool) (leaf : Leaf) (pid ea : ℕ) → IsLeaf leaf → IfOk (real_found (cond permitted (cond marked (Ok (translated leaf pid ea)) (Err ReferenceOrChange)) (Err NotPermitted))) (IsBeside ea)
+gives-beside true true leaf pid ea known = leaf-beside leaf ea known
+gives-beside true false leaf pid ea known = tt
+gives-beside false marked leaf pid ea known = tt
+
+end-beside : (end : Result Leaf WalkFault) (kind : Kind) (problem : Bool) (pid ea : ℕ) → IfOk end IsLeaf → IfOk (real_found (found_by end kind problem pid ea)) (IsBeside ea)
+end-beside (Ok leaf) kind problem pid ea known = gives-beside (permits leaf.rights kind problem) (is_marked leaf kind) leaf pid ea known
+end-beside (Err Segment) kind problem pid ea known = tt
+end-beside (Err NoEntry) kind problem pid ea known = tt
+end-beside (Err BadTree) kind problem pid ea known = tt
+
+quadrant-beside : (process : Result ℕ StorageFault) (ram : List ℕ) (regs : Regs) (kind : Kind) (ea : ℕ) → IfOk (real_found (translated_in ram regs kind ea process)) (IsBeside ea)
+quadrant-beside (Ok pid) ram regs kind ea = end-beside (walk_of ram regs.prtbl pid ea).end kind (has_bit regs.msr pr_place) pid ea (walk-leaf ram regs.prtbl pid ea)
+quadrant-beside (Err fault) ram regs kind ea = tt
+
+on-beside : (on : Bool) (ram : List ℕ) (regs : Regs) (kind : Kind) (ea : ℕ) → IfOk (real_found (cond on (translated_in ram regs kind ea (quadrant_of regs.pidr ea)) (Ok (untranslated ea)))) (IsBeside ea)
+on-beside true ram regs kind ea = quadrant-beside (quadrant_of regs.pidr ea) ram regs kind ea
+on-beside false ram regs kind ea = (omega arith, omega arith)
+
+-- so addresses of one page of 4 KiB stand side by side in real storage, translated or not
+pub walk-page : (ram : List ℕ) (regs : Regs) → IsPagewise (page_real ram regs)
+unfolding translate_of
+walk-page ram regs page = on-beside (is_translated page.kind regs.msr) ram regs page.kind page.ea

@@ -7,10 +7,11 @@ use Rattle.std.proofs.lemmas.Bool.{and_parts}
 use Rattle.std.proofs.lemmas.Bool.Decides.{nat_tests}
 use Rattle.mw_bits.specs.Fields.{field_of}
 use Rattle.mw_isa.specs.declared.walk.Leaf.{Leaf}
+use Rattle.mw_isa.specs.declared.walk.Level.{Level}
 use Rattle.mw_isa.specs.declared.walk.WalkFault.{WalkFault}
 use Rattle.mw_isa.specs.declared.walk.WalkFault.TheVariants.{Segment, NoEntry, BadTree}
 use Rattle.mw_isa.specs.Tables.{doubleword, table_base, tree_bits, is_there, is_leaf, next_base, root_base, page_base}
-use Rattle.mw_isa.specs.Walk.{Walked, Level, ended, reading, is_level, left_behind, entry_at, next_level, page_in, leaf_of, walk_behind, walk_from, root_of, is_in_tree, walk_in, is_in_table, process_at, walk_of, IsLeaf, AreAddresses}
+use Rattle.mw_isa.specs.Walk.{Walked, ended, reading, is_level, left_behind, entry_at, next_level, page_in, leaf_of, walk_behind, walk_from, root_of, is_in_tree, walk_in, is_in_table, process_at, walk_of, IsLeaf, AreAddresses}
 
 -- what is shown of a walk where so many address bits are left
 record Reads (left : ℕ) (walked : Walked) : Type 0 where

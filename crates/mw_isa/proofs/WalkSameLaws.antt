@@ -1,10 +1,11 @@
 -- A walk depends on RAM only by the doublewords that it reads.
 use Rattle.std.proofs.Common.{◌≡◌, ℕ, zero, suc, Bool, true, false, cond, List, [], ◌∷◌, Result, Ok, Err, refl, ap, ◌∙◌}
 use Rattle.mw_isa.specs.declared.walk.Leaf.{Leaf}
+use Rattle.mw_isa.specs.declared.walk.Level.{Level}
 use Rattle.mw_isa.specs.declared.walk.WalkFault.{WalkFault}
 use Rattle.mw_isa.specs.declared.walk.WalkFault.TheVariants.{Segment, NoEntry, BadTree}
 use Rattle.mw_isa.specs.Tables.{doubleword, tree_bits, is_there, is_leaf}
-use Rattle.mw_isa.specs.Walk.{Walked, Level, ended, reading, is_level, left_behind, entry_at, next_level, leaf_of, walk_behind, walk_from, root_of, is_in_tree, walk_in, is_in_table, process_at, walk_of, AgreeOn}
+use Rattle.mw_isa.specs.Walk.{Walked, ended, reading, is_level, left_behind, entry_at, next_level, leaf_of, walk_behind, walk_from, root_of, is_in_tree, walk_in, is_in_table, process_at, walk_of, AgreeOn}
 
 same-behind : (there leaf : Bool) (ram other : List ℕ) (entry left : ℕ) (on also : Walked) → (AgreeOn ram other on.reads → on ≡ also) → AgreeOn ram other (cond there (cond leaf (ended (leaf_of entry left)) on) (ended (Err NoEntry))).reads → cond there (cond leaf (ended (leaf_of entry left)) on) (ended (Err NoEntry)) ≡ cond there (cond leaf (ended (leaf_of entry left)) also) (ended (Err NoEntry))
 same-behind true true ram other entry left on also rest agree = refl

@@ -2,6 +2,7 @@
 -- can have is this board's own choice).
 use Rattle.std.specs.Prelude.{ℕ, zero, suc, ⊤, ◌≡◌, ◌+◌, ◌-◌, ◌*◌, ◌/◌, ◌%◌, ◌^◌, ◌<◌, ◌≤◌, Bool, not, ◌&&◌, if◌then◌else◌, nat_lt, nat_le, List, [], ◌∷◌, Result, Ok, Err}
 use Rattle.mw_isa.specs.declared.walk.Leaf.{Leaf}
+use Rattle.mw_isa.specs.declared.walk.Level.{Level}
 use Rattle.mw_isa.specs.declared.walk.WalkFault.{WalkFault}
 use Rattle.mw_isa.specs.declared.walk.WalkFault.TheVariants.{Segment, NoEntry, BadTree}
 use Rattle.mw_isa.specs.Tables.{doubleword, table_base, table_bytes, tree_bits, root_base, root_bits, is_there, is_leaf, next_base, next_bits, page_base, is_referenced, rights_of}
@@ -18,12 +19,6 @@ ended end = record { reads = []; end = end }
 -- a walk that reads this first
 abbrev pub reading : ℕ → Walked → Walked
 reading at rest = record { reads = at ∷ rest.reads; end = rest.end }
-
--- a level of a tree: where its table begins, how many address bits index it, and how many are left
-pub record Level : Type 0 where
-  pub base : ℕ
-  pub bits : ℕ
-  pub left : ℕ
 
 -- a level that a tree can have: 5 to 16 bits, no more than are left
 abbrev pub is_level : Level → Bool

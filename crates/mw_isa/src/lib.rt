@@ -130,6 +130,7 @@ pub use system::SysOp;
 pub use vector::Vector;
 pub use walk::KeptEntry;
 pub use walk::Leaf;
+pub use walk::Level;
 pub use walk::Translated;
 pub use walk::WalkFault;
 pub use writing::field_written;

@@ -13,6 +13,17 @@ pub struct Leaf {
     pub referenced: bool,
 }
 
+/// A level of a radix tree.
+#[derive(Clone, Copy, Debug, PartialEq, Eq)]
+pub struct Level {
+    /// The real address at which its table begins.
+    pub base: u64,
+    /// How many address bits index the table.
+    pub bits: u32,
+    /// How many address bits are left, those of the index among them.
+    pub left: u32,
+}
+
 /// Why a walk through a radix tree finds no leaf (Book III, radix tree translation).
 #[derive(Clone, Copy, Debug, PartialEq, Eq)]
 pub enum WalkFault {
