@@ -1,12 +1,11 @@
 -- The addresses of one page of 4 KiB have one walk, where it ends in a leaf, and stand side by side in real storage.
-use Rattle.std.proofs.Common.{◌≡◌, ◌==◌, ℕ, zero, suc, ◌+◌, ◌-◌, ◌*◌, ◌/◌, ◌%◌, ◌^◌, ◌<◌, ◌≤◌, Bool, true, false, not, ◌&&◌, ◌||◌, cond, List, [], ◌∷◌, Option, Some, None, Result, Ok, Err, IfOk, refl, sym, ap, ◌∙◌, subst, arith, mod-lt, pow_pos}
-use Rattle.std.specs.Prelude.{nat_lt, nat_le}
+use Rattle.std.proofs.Common.{◌≡◌, ℕ, zero, suc, ◌+◌, ◌-◌, ◌*◌, ◌/◌, ◌%◌, ◌^◌, ◌<◌, ◌≤◌, Bool, true, false, cond, List, Result, Ok, Err, IfOk, refl, sym, ap, ◌∙◌, arith, mod-lt, pow_pos}
+use Rattle.std.specs.Prelude.{nat_lt}
 use Rattle.std.proofs.Math.Nat.{div-div-eq-div-mul}
 use Rattle.std.proofs.Math.Pow.{mod-mod-pow, pow_mono}
 use Rattle.std.proofs.lemmas.Nat.{pow-add}
 use Rattle.std.proofs.lemmas.Bool.Decides.{nat_tests}
 use Rattle.mw_isa.specs.declared.access.Kind.{Kind}
-use Rattle.mw_isa.specs.declared.access.Kind.TheVariants.{Fetch, Load, Store}
 use Rattle.mw_isa.specs.declared.pages.StorageFault.{StorageFault}
 use Rattle.mw_isa.specs.declared.pages.StorageFault.TheVariants.{NotPermitted, ReferenceOrChange}
 use Rattle.mw_isa.specs.declared.regs.Regs.{Regs}
@@ -18,7 +17,7 @@ use Rattle.mw_isa.specs.Tables.{doubleword, tree_bits, is_there, is_leaf}
 use Rattle.mw_isa.specs.Walk.{Walked, ended, reading, is_level, left_behind, entry_at, next_level, page_in, leaf_of, walk_behind, walk_from, root_of, is_in_tree, walk_in, is_in_table, process_at, walk_of, IsLeaf}
 use Rattle.mw_isa.specs.Msr.{pr_place}
 use Rattle.mw_isa.specs.Pages.{page_size, IsPagewise}
-use Rattle.mw_isa.specs.Translate.{quadrant_of, permits, is_marked, real_in, translated, leaf_gives, found_by, translated_in, is_translated, untranslated, translate_of, real_found, page_real}
+use Rattle.mw_isa.specs.Translate.{quadrant_of, permits, is_marked, real_in, translated, found_by, translated_in, is_translated, untranslated, translate_of, real_found, page_real}
 use Rattle.mw_isa.specs.Xer.{has_bit}
 use Rattle.mw_isa.proofs.WalkReadLaws.{walk-leaf}
 
@@ -46,7 +45,7 @@ long-from (suc n) ram ea level page ends =
     let entry = doubleword ram (entry_at ea level) in
     let on = walk_from n ram ea (next_level entry level) in
     long-level (is_level level) (entry_at ea level) level.left level.bits (walk_behind entry (left_behind level) on) page
-      (long-behind (is_there entry) (is_leaf entry) entry (left_behind level) on page (long-from n ram ea (next_level entry level) page)) ends
+    (long-behind (is_there entry) (is_leaf entry) entry (left_behind level) on page (long-from n ram ea (next_level entry level) page)) ends
 
 -- above the low twelve bits the addresses are one
 high-same : (ea near left : ℕ) → 12 ≤ left → ea / 4096 ≡ near / 4096 → ea / 2 ^ left ≡ near / 2 ^ left
@@ -77,8 +76,8 @@ page-from zero ram ea near level page e ends = refl
 page-from (suc n) ram ea near level page e ends =
     let entry = doubleword ram (entry_at ea level) in
     page-level (is_level level) ram (entry_at ea level) (entry_at near level) (left_behind level) (λ (entry : ℕ). walk_from n ram ea (next_level entry level)) (λ (entry : ℕ). walk_from n ram near (next_level entry level)) page
-      (λ on. ap (λ (high : ℕ). (level.base + 8 * (high % 2 ^ level.bits)) % 2 ^ 60) (sym (high-same ea near (left_behind level) (long-behind (is_there entry) (is_leaf entry) entry (left_behind level) (walk_from n ram ea (next_level entry level)) page (long-from n ram ea (next_level entry level) page) on) e)))
-      (λ entry on. page-from n ram ea near (next_level entry level) page e on) ends
+    (λ on. ap (λ (high : ℕ). (level.base + 8 * (high % 2 ^ level.bits)) % 2 ^ 60) (sym (high-same ea near (left_behind level) (long-behind (is_there entry) (is_leaf entry) entry (left_behind level) (walk_from n ram ea (next_level entry level)) page (long-from n ram ea (next_level entry level) page) on) e)))
+    (λ entry on. page-from n ram ea near (next_level entry level) page e on) ends
 
 -- of two addresses of one page both lie in a tree, or none
 tests-same : (a b : Bool) (x y n : ℕ) → nat_lt x n ≡ a → nat_lt y n ≡ b → (x < n → y < n) → (y < n → x < n) → a ≡ b
@@ -96,7 +95,7 @@ tree-same ea near size long e =
     let split : 2 ^ size ≡ 4096 * 2 ^ (size - 12) = ap (λ (n : ℕ). 2 ^ n) (sym whole) ∙ pow-add 2 12 (size - 12) in
     ap (λ (n : ℕ). nat_lt (near % 2 ^ 62) n) split
     ∙ tests-same (nat_lt (near % 2 ^ 62) (4096 * 2 ^ (size - 12))) (nat_lt (ea % 2 ^ 62) (4096 * 2 ^ (size - 12))) (near % 2 ^ 62) (ea % 2 ^ 62) (4096 * 2 ^ (size - 12)) refl refl
-        (below-same near ea (2 ^ (size - 12)) (sym e)) (below-same ea near (2 ^ (size - 12)) e)
+    (below-same near ea (2 ^ (size - 12)) (sym e)) (below-same ea near (2 ^ (size - 12)) e)
     ∙ ap (λ (n : ℕ). nat_lt (ea % 2 ^ 62) n) (sym split)
 
 page-in : (b : Bool) (ram : List ℕ) (ea near entry : ℕ) (page : Leaf) → ea / 4096 ≡ near / 4096 → (cond b (walk_from (tree_bits entry) ram ea (root_of entry)) (ended (Err Segment))).end ≡ Ok page → cond b (walk_from (tree_bits entry) ram near (root_of entry)) (ended (Err Segment)) ≡ cond b (walk_from (tree_bits entry) ram ea (root_of entry)) (ended (Err Segment))

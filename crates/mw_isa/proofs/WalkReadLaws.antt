@@ -1,17 +1,16 @@
 -- What a walk reads, and where it ends: 13 doublewords at most, each at a real address that a doubleword of a table can
 -- have, and a leaf with a page of 4 KiB at least.
-use Rattle.std.proofs.Common.{◌≡◌, ◌==◌, ℕ, zero, suc, ◌+◌, ◌-◌, ◌*◌, ◌/◌, ◌%◌, ◌^◌, ◌<◌, ◌≤◌, Bool, true, false, not, ◌&&◌, ◌||◌, cond, List, [], ◌∷◌, length, Result, Ok, Err, IfOk, refl, sym, ap, ◌∙◌, subst, arith, mod-lt, pow_pos}
+use Rattle.std.proofs.Common.{◌≡◌, ℕ, zero, suc, ◌+◌, ◌-◌, ◌*◌, ◌/◌, ◌%◌, ◌^◌, ◌<◌, ◌≤◌, Bool, true, false, ◌&&◌, cond, List, length, Result, Ok, Err, IfOk, refl, ap, ◌∙◌, arith, pow_pos}
 use Rattle.std.specs.Prelude.{nat_lt, nat_le}
-use Rattle.std.proofs.Math.Nat.{mod-eq-sub-mul-div, div-add-mod, mul-mod_right}
+use Rattle.std.proofs.Math.Nat.{div-add-mod, mul-mod_right}
 use Rattle.std.proofs.lemmas.Bool.{and_parts}
 use Rattle.std.proofs.lemmas.Bool.Decides.{nat_tests}
-use Rattle.mw_bits.specs.Fields.{field_of}
 use Rattle.mw_isa.specs.declared.walk.Leaf.{Leaf}
 use Rattle.mw_isa.specs.declared.walk.Level.{Level}
 use Rattle.mw_isa.specs.declared.walk.WalkFault.{WalkFault}
 use Rattle.mw_isa.specs.declared.walk.WalkFault.TheVariants.{Segment, NoEntry, BadTree}
-use Rattle.mw_isa.specs.Tables.{doubleword, table_base, tree_bits, is_there, is_leaf, next_base, root_base, page_base}
-use Rattle.mw_isa.specs.Walk.{Walked, ended, reading, is_level, left_behind, entry_at, next_level, page_in, leaf_of, walk_behind, walk_from, root_of, is_in_tree, walk_in, is_in_table, process_at, walk_of, IsLeaf, AreAddresses}
+use Rattle.mw_isa.specs.Tables.{doubleword, tree_bits, is_there, is_leaf, page_base}
+use Rattle.mw_isa.specs.Walk.{Walked, ended, reading, is_level, left_behind, entry_at, next_level, page_in, leaf_of, walk_behind, walk_from, root_of, is_in_tree, walk_in, is_in_table, process_at, walk_of, IsLeaf, IsLevel, AreAddresses}
 
 -- what is shown of a walk where so many address bits are left
 record Reads (left : ℕ) (walked : Walked) : Type 0 where
@@ -57,22 +56,25 @@ reading-reads left bits at walked wide within below whole rest =
     let more : 5 * (length walked.reads + 1) ≤ left = omega arith in
     record { few = omega arith; real = (below, whole, rest.real); leaf = rest.leaf }
 
--- the bounds of a level that a tree can have
-record Bounds (level : Level) : Type 0 where
-  wide : 5 ≤ level.bits
-  within : level.bits ≤ level.left
-
-bounds-of : (level : Level) → is_level level ≡ true → Bounds level
-bounds-of level e =
+-- the test of a level's bounds is one
+pub level-is : (level : Level) → is_level level ≡ true → IsLevel level
+level-is level e =
     let parts = and_parts (nat_le 5 level.bits && nat_le level.bits 16) (nat_le level.bits level.left) e in
     let first = and_parts (nat_le 5 level.bits) (nat_le level.bits 16) parts.0 in
     let wide = first.0 in
+    let short = first.1 in
     let within = parts.1 in
-    record { wide = grind (arith, nat_tests); within = grind (arith, nat_tests) }
+    record { wide = grind (arith, nat_tests); short = grind (arith, nat_tests); within = grind (arith, nat_tests) }
 
-level-by : (b : Bool) (ea : ℕ) (level : Level) (inner : Walked) → is_level level ≡ b → level.base % 8 ≡ 0 → (Bounds level → Reads (left_behind level) inner) → Reads level.left (cond b (reading (entry_at ea level) inner) (ended (Err BadTree)))
+-- the leaf behind a level is a page of 2^12 to 2^57 bytes
+pub leaf-behind : (entry : ℕ) (level : Level) → is_level level ≡ true → level.left ≤ 62 → IfOk (leaf_of entry (left_behind level)) IsLeaf
+leaf-behind entry level e most =
+    let wide = (level-is level e).wide in
+    leaf-by (nat_lt (left_behind level) 12) entry (left_behind level) (omega arith) refl
+
+level-by : (b : Bool) (ea : ℕ) (level : Level) (inner : Walked) → is_level level ≡ b → level.base % 8 ≡ 0 → (IsLevel level → Reads (left_behind level) inner) → Reads level.left (cond b (reading (entry_at ea level) inner) (ended (Err BadTree)))
 level-by true ea level inner e whole rest =
-    let bounds = bounds-of level e in
+    let bounds = level-is level e in
     let at = entry-real level.base (ea / 2 ^ left_behind level % 2 ^ level.bits) whole in
     reading-reads level.left level.bits (entry_at ea level) inner bounds.wide bounds.within at.0 at.1 (rest bounds)
 level-by false ea level inner e whole rest = ended-reads level.left (Err BadTree) tt
@@ -87,10 +89,10 @@ reads-from zero ram ea level most whole = ended-reads level.left (Err BadTree) t
 reads-from (suc n) ram ea level most whole =
     let entry = doubleword ram (entry_at ea level) in
     level-by (is_level level) ea level (walk_behind entry (left_behind level) (walk_from n ram ea (next_level entry level))) refl whole (λ bounds.
-      let wide = bounds.wide in
-      let left : level.left - level.bits ≤ 57 = omega arith in
-      behind-by (is_there entry) (is_leaf entry) entry (left_behind level) (walk_from n ram ea (next_level entry level)) left
-        (reads-from n ram ea (next_level entry level) (omega arith) (next-whole entry level)))
+    let wide = bounds.wide in
+    let left : level.left - level.bits ≤ 57 = omega arith in
+    behind-by (is_there entry) (is_leaf entry) entry (left_behind level) (walk_from n ram ea (next_level entry level)) left
+    (reads-from n ram ea (next_level entry level) (omega arith) (next-whole entry level)))
 
 tree-most : (entry : ℕ) → tree_bits entry ≤ 62
 tree-most entry = omega arith

@@ -1,8 +1,6 @@
 -- A walk depends on RAM only by the doublewords that it reads.
-use Rattle.std.proofs.Common.{◌≡◌, ℕ, zero, suc, Bool, true, false, cond, List, [], ◌∷◌, Result, Ok, Err, refl, ap, ◌∙◌}
-use Rattle.mw_isa.specs.declared.walk.Leaf.{Leaf}
+use Rattle.std.proofs.Common.{◌≡◌, ℕ, zero, suc, Bool, true, false, cond, List, Err, refl, ap, ◌∙◌}
 use Rattle.mw_isa.specs.declared.walk.Level.{Level}
-use Rattle.mw_isa.specs.declared.walk.WalkFault.{WalkFault}
 use Rattle.mw_isa.specs.declared.walk.WalkFault.TheVariants.{Segment, NoEntry, BadTree}
 use Rattle.mw_isa.specs.Tables.{doubleword, tree_bits, is_there, is_leaf}
 use Rattle.mw_isa.specs.Walk.{Walked, ended, reading, is_level, left_behind, entry_at, next_level, leaf_of, walk_behind, walk_from, root_of, is_in_tree, walk_in, is_in_table, process_at, walk_of, AgreeOn}

@@ -1,6 +1,6 @@
 -- The interrupt of an access whose page has a fault (Book III, data storage, data segment, instruction storage and
 -- instruction segment interrupts; which bits tell the cause is this board's own choice).
-use Rattle.std.specs.Prelude.{ℕ, ◌+◌, Option, Some, None}
+use Rattle.std.specs.Prelude.{ℕ, ◌+◌, Some, None}
 use Rattle.mw_isa.specs.declared.access.Kind.{Kind}
 use Rattle.mw_isa.specs.declared.access.Kind.TheVariants.{Fetch, Load, Store}
 use Rattle.mw_isa.specs.declared.pages.StorageFault.{StorageFault}

@@ -3,7 +3,6 @@
 -- interrupt is.
 use Rattle.std.specs.Prelude.{ℕ, ◌≡◌, ◌+◌, ◌-◌, ◌*◌, ◌/◌, ◌%◌, ◌^◌, ◌<◌, ◌==◌, Bool, true, false, not, ◌&&◌, ◌||◌, if◌then◌else◌, List, [], ◌∷◌, replicate, Option, Some, None, IfSome, is_some}
 use Rattle.std.specs.Int.{from_bool}
-use Rattle.std.specs.Option.{option_map_or}
 use Rattle.mw_bits.specs.Fields.{sext_of}
 use Rattle.mw_bus.specs.Memory.{number_of, bytes_of}
 use Rattle.mw_soc.specs.DeviceData.{DeviceData}
@@ -13,7 +12,6 @@ use Rattle.mw_isa.specs.declared.access.Kind.TheVariants.{Load as Loads, Store a
 use Rattle.mw_isa.specs.declared.access.Deed.{Deed}
 use Rattle.mw_isa.specs.declared.access.Deed.TheVariants.{Plain, Store as StoreDeed, Icbi as IcbiDeed}
 use Rattle.mw_isa.specs.declared.pages.Pages.{Pages}
-use Rattle.mw_isa.specs.declared.pages.Stretch.{Stretch}
 use Rattle.mw_isa.specs.declared.pages.Stretches.{Stretches}
 use Rattle.mw_isa.specs.declared.memory.MemWhat.{MemWhat}
 use Rattle.mw_isa.specs.declared.memory.MemWhat.TheVariants.{Load, Store, Conditional, Zero, Clean, Icbi}

@@ -1,7 +1,7 @@
 -- What an effective address comes to while addresses are translated: its quadrant, its walk, and what the walk's end gives
 -- for an access (Book III, radix tree translation, storage protection, reference and change recording). This board writes
 -- no table, so an entry that isn't marked is a fault.
-use Rattle.std.specs.Prelude.{ℕ, ◌+◌, ◌/◌, ◌%◌, ◌^◌, Bool, false, not, ◌&&◌, ◌||◌, if◌then◌else◌, ◌==◌, List, Option, Some, None, Result, Ok, Err}
+use Rattle.std.specs.Prelude.{ℕ, ◌+◌, ◌/◌, ◌%◌, ◌^◌, Bool, false, not, ◌&&◌, ◌||◌, if◌then◌else◌, ◌==◌, List, Some, None, Result, Ok, Err}
 use Rattle.mw_bits.specs.declared.rights.Rights.{Rights}
 use Rattle.mw_isa.specs.declared.access.Kind.{Kind}
 use Rattle.mw_isa.specs.declared.access.Kind.TheVariants.{Fetch, Load, Store}

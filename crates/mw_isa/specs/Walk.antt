@@ -1,6 +1,6 @@
 -- A walk through a radix tree: what it reads, in order, and its end (Book III, radix tree translation; which levels a tree
 -- can have is this board's own choice).
-use Rattle.std.specs.Prelude.{ℕ, zero, suc, ⊤, ◌≡◌, ◌+◌, ◌-◌, ◌*◌, ◌/◌, ◌%◌, ◌^◌, ◌<◌, ◌≤◌, Bool, not, ◌&&◌, if◌then◌else◌, nat_lt, nat_le, List, [], ◌∷◌, Result, Ok, Err}
+use Rattle.std.specs.Prelude.{ℕ, zero, suc, ⊤, ◌≡◌, ◌+◌, ◌-◌, ◌*◌, ◌/◌, ◌%◌, ◌^◌, ◌<◌, ◌≤◌, Bool, ◌&&◌, if◌then◌else◌, nat_lt, nat_le, List, [], ◌∷◌, Result, Ok, Err}
 use Rattle.mw_isa.specs.declared.walk.Leaf.{Leaf}
 use Rattle.mw_isa.specs.declared.walk.Level.{Level}
 use Rattle.mw_isa.specs.declared.walk.WalkFault.{WalkFault}
@@ -23,6 +23,12 @@ reading at rest = record { reads = at ∷ rest.reads; end = rest.end }
 -- a level that a tree can have: 5 to 16 bits, no more than are left
 abbrev pub is_level : Level → Bool
 is_level level = nat_le 5 level.bits && nat_le level.bits 16 && nat_le level.bits level.left
+
+-- the bounds of such a level
+pub record IsLevel (level : Level) : Type 0 where
+  pub wide : 5 ≤ level.bits
+  pub short : level.bits ≤ 16
+  pub within : level.bits ≤ level.left
 
 -- how many address bits are left behind a level
 abbrev pub left_behind : Level → ℕ

@@ -1,0 +1,2 @@
+-- What holds of a walk doubleword by doubleword.
+pub mod Laws
