@@ -36,7 +36,7 @@ cat
 """
 # Tells its words and its folder, and ends with a status of its own.
 PROGRAM = r"""#!/usr/bin/env bash
-echo "ran: $*"
+printf "ran:"; printf " <%s>" "$@"; echo
 echo "in: $PWD"
 exit 6
 """
@@ -91,9 +91,9 @@ class RunnerTest(unittest.TestCase):
         self.date(self.program, 100)
 
     def date(self, path, seconds):
-        """Sets a file's time to so many seconds from now."""
-        when = time.time() + seconds
-        os.utime(os.path.join(self.top, path), (when, when))
+        """Sets the time at which a file was last written to so many seconds from now; it was read now."""
+        now = time.time()
+        os.utime(os.path.join(self.top, path), (now, now + seconds))
 
     def mw(self, *words, rt=True):
         """The status, standard output and lines of standard error of bin/mw with these words, called from elsewhere."""
@@ -109,7 +109,7 @@ class RunnerTest(unittest.TestCase):
 
     def ran(self, *words):
         """What the program prints for these words: it is handed all of them, in the folder of whoever called."""
-        return "ran: %s\nin: %s\n" % (" ".join(words), self.elsewhere)
+        return "ran:%s\nin: %s\n" % ("".join(" <%s>" % word for word in words or [""]), self.elsewhere)
 
     def told(self, first, count=len(ORDER)):
         """The lines of a build's first crates."""
