@@ -4,12 +4,11 @@ ghost use Rattle.mw_isa.specs.Execute.{branch_by, branch_of, count_target, goal_
 ghost use Rattle.mw_isa.specs.Places.{AreLimited, branch_roles};
 
 use crate::bits::cr_bit;
-use crate::inputs::b_of;
 use crate::outcome::branch_to;
 use arrayvec::ArrayVec;
 use mw_decode::Insn;
 use mw_isa::{
-    BranchRow, Operands, Operation, Outcome, Slot, Target, bi_of, bo_bit, bo_of, falls, places_of,
+    BranchRow, Operands, Outcome, Slot, Target, bi_of, bo_bit, bo_of, falls, operand_of,
 };
 
 /// The address that a branch goes to: its displacement in bytes, from 0 where AA is 1, and from the
@@ -35,10 +34,9 @@ pub fn word_address(number: u64) -> u64
 fn goal_of(row: BranchRow, insn: &Insn, operands: &Operands, cia: u64) -> u64
     ensures { result ≡ goal_of row insn.now operands.now cia }
 {
-    let displacement = b_of(places_of(Operation::Branch(row)), insn, operands);
     match row {
-        BranchRow::B => target_of(displacement, insn, cia),
-        BranchRow::Bc => target_of(displacement, insn, cia),
+        BranchRow::B => target_of(operand_of(insn, 0), insn, cia),
+        BranchRow::Bc => target_of(operand_of(insn, 2), insn, cia),
         BranchRow::Bclr => word_address(operands.lr),
         BranchRow::Bcctr => word_address(operands.ctr),
         BranchRow::Bctar => word_address(operands.tar),
