@@ -7,9 +7,7 @@ use crate::bits::cr_bit;
 use crate::outcome::branch_to;
 use arrayvec::ArrayVec;
 use mw_decode::Insn;
-use mw_isa::{
-    BranchRow, Operands, Outcome, Slot, Target, bi_of, bo_bit, bo_of, falls, operand_of,
-};
+use mw_isa::{BranchRow, Operands, Outcome, Slot, Target, bi_of, bo_bit, bo_of, falls, operand_of};
 
 /// The address that a branch goes to: its displacement in bytes, from 0 where AA is 1, and from the
 /// branch where it is 0. Sums wrap at 2^64.

@@ -31,6 +31,7 @@ use Rattle.mw_isa.specs.Unbuilt.{passed, passed_by}
 use Rattle.mw_isa.specs.Pages.{is_in_ram}
 use Rattle.mw_isa.specs.Fetch.{fetch_at, fetched, is_cut, word_of, suffix_of}
 use Rattle.mw_isa.specs.Slots.{get_slot}
+use Rattle.mw_isa.specs.Translate.{page_real}
 use Rattle.mw_isa.specs.Reads.{operands_of}
 use Rattle.mw_isa.specs.Execute.{exec_of}
 use Rattle.mw_soc.specs.DeviceData.{DeviceData}
@@ -48,7 +49,7 @@ known words insn outcome state = record {
   words = Some words;
   insn = Some insn;
   outcome = Some outcome;
-  placed = placed_of outcome;
+  placed = placed_of (page_real state.ram state.regs) outcome;
 }
 
 -- what an instruction comes to, once it is known
@@ -64,7 +65,7 @@ carried words insn outcome state = record {
   words = words;
   insn = insn;
   outcome = outcome;
-  placed = option_and_then placed_of outcome;
+  placed = option_and_then (placed_of (page_real state.ram state.regs)) outcome;
 }
 
 -- the next instruction carries what is known of it
@@ -76,7 +77,7 @@ under_way-known words insn outcome state k =
     ∙ ap (λ (o : Option Outcome). carried (Some words) (Some insn) o state) (outcome_of-known insn outcome state k.outcome_is)
 
 -- whether the next instruction is built, once it is known what it comes to
-pub builds-known : (words : Fetched) (insn : Insn) (outcome : Outcome) (state : State) → IsKnown words insn outcome state → builds state ≡ is_built_outcome outcome (placed_of outcome) state.regs
+pub builds-known : (words : Fetched) (insn : Insn) (outcome : Outcome) (state : State) → IsKnown words insn outcome state → builds state ≡ is_built_outcome outcome state.regs
 unfolding builds
 builds-known words insn outcome state k = ap (λ (it : UnderWay). builds_by it state.regs) (under_way-known words insn outcome state k)
 
@@ -130,13 +131,13 @@ trapped-words words raised state w whole raises =
     ∙ ap₂ (λ (b : Bool) (r : Option Raised). option_map (marked (Some words)) (earlier (cond b (Some cut_raised) None) (earlier r (option_and_then (λ (o : Outcome). end_raises o (under_way state).placed state.regs.msr) (under_way state).outcome)))) whole raises
 
 -- a step that comes to an outcome traps by that, or doesn't trap
-pub trap-known : (words : Fetched) (insn : Insn) (outcome : Outcome) (state : State) → IsKnown words insn outcome state → (step state).trap ≡ option_map (marked (Some words)) (end_raises outcome (placed_of outcome) state.regs.msr)
+pub trap-known : (words : Fetched) (insn : Insn) (outcome : Outcome) (state : State) → IsKnown words insn outcome state → (step state).trap ≡ option_map (marked (Some words)) (end_raises outcome (placed_of (page_real state.ram state.regs) outcome) state.regs.msr)
 unfolding chain_of
 trap-known words insn outcome state k =
     let is = is-by (is_cut words) (decoded_of words) insn k.insn_is in
     trap-chain words state k.words_are
     ∙ ap (λ (it : UnderWay). chain_of words (words_raise words (get_slot state.regs)) (option_and_then (λ (o : Outcome). end_raises o it.placed state.regs.msr) it.outcome)) (under_way-known words insn outcome state k)
-    ∙ ap₂ (λ (b : Bool) (d : Decoded). option_map (marked (Some words)) (earlier (cond b (Some cut_raised) None) (earlier (decoded_raises d (get_slot state.regs)) (end_raises outcome (placed_of outcome) state.regs.msr)))) is.0 is.1
+    ∙ ap₂ (λ (b : Bool) (d : Decoded). option_map (marked (Some words)) (earlier (cond b (Some cut_raised) None) (earlier (decoded_raises d (get_slot state.regs)) (end_raises outcome (placed_of (page_real state.ram state.regs) outcome) state.regs.msr)))) is.0 is.1
 
 -- a step that traps takes its interrupt, and changes nothing else
 pub after-trapped : (raised : Raised) (state : State) → (step state).trap ≡ Some raised → (step state).after ≡ record state { regs = regs_raised raised state.regs.cia state.regs }
@@ -144,7 +145,7 @@ unfolding step under_way
 after-trapped raised state e = ap (λ (trap : Option Raised). after_of trap (under_way state) state) e
 
 -- a step that doesn't trap leaves what its outcome leaves
-pub after-known : (words : Fetched) (insn : Insn) (outcome : Outcome) (state : State) → IsKnown words insn outcome state → (step state).trap ≡ None → (step state).after ≡ state_behind (Some insn) (Some outcome) (placed_of outcome) state.regs.cia state
+pub after-known : (words : Fetched) (insn : Insn) (outcome : Outcome) (state : State) → IsKnown words insn outcome state → (step state).trap ≡ None → (step state).after ≡ state_behind (Some insn) (Some outcome) (placed_of (page_real state.ram state.regs) outcome) state.regs.cia state
 unfolding step
 after-known words insn outcome state k calm =
     ap (λ (trap : Option Raised). after_of trap (under_way state) state) calm

@@ -8,7 +8,6 @@ use Rattle.mw_isa.specs.declared.pages.StorageFault.TheVariants.{Segment, NoTran
 use Rattle.mw_isa.specs.declared.raised.Raised.{Raised}
 use Rattle.mw_isa.specs.declared.vector.Vector.TheVariants.{DataStorage, DataSegment, InstStorage, InstSegment}
 use Rattle.mw_isa.specs.Msr.{bit_at, no_translation_place, fetch_refused_place, data_refused_place, bad_tree_place, unmarked_place, store_place}
-use Rattle.mw_isa.specs.Raises.{raising}
 
 -- the bit of SRR1 that tells why a fetch failed
 abbrev pub fetch_cause : StorageFault → ℕ
@@ -20,8 +19,8 @@ fetch_cause ReferenceOrChange = bit_at unmarked_place
 
 -- the interrupt of a fetch that failed; DAR and DSISR stay
 abbrev pub fetch_fault : StorageFault → Raised
-fetch_fault Segment = raising InstSegment 0
-fetch_fault fault = raising InstStorage (fetch_cause fault)
+fetch_fault Segment = record { vector = InstSegment; cause = 0; dar = None; dsisr = None }
+fetch_fault fault = record { vector = InstStorage; cause = fetch_cause fault; dar = None; dsisr = None }
 
 -- the bit of DSISR that tells why an access to data failed
 abbrev pub data_cause : StorageFault → ℕ

@@ -23,11 +23,11 @@ pub mod Words
 pub mod Finish
 pub mod Targets
 pub mod Storage
-pub mod Raises
 pub mod Tables
 pub mod Walk
 pub mod Translate
 pub mod Faults
+pub mod Raises
 pub mod System
 pub mod Take
 pub mod Step

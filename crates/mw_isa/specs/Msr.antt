@@ -112,7 +112,3 @@ msr_from source msr =
 -- EE and RI alone written from a source, each from its own bit
 abbrev pub msr_partly_from : ℕ → ℕ → ℕ
 msr_partly_from source msr = with_bit (has_bit source ee_place) ee_place (with_bit (has_bit source ri_place) ri_place msr)
-
--- instruction or data addresses are translated
-abbrev pub is_translating : ℕ → Bool
-is_translating msr = has_bit msr ir_place || has_bit msr dr_place

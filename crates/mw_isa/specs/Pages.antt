@@ -53,7 +53,7 @@ touches_of pages = touch_of pages.first ∷ option_map_or (λ page. touch_of pag
 abbrev pub real_of : ℕ → ℕ
 real_of effective = effective % 2 ^ 60
 
--- the real address of a page's first byte, or what is wrong with the page; nothing is, as translation is off
+-- the real address of a page's first byte while translation is off, or what is wrong with the page, which nothing is then
 abbrev pub real_at : Page → Result ℕ StorageFault
 real_at page = Ok (real_of page.ea)
 

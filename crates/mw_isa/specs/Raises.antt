@@ -17,6 +17,7 @@ use Rattle.mw_isa.specs.declared.raised.Raised.{Raised}
 use Rattle.mw_isa.specs.declared.slot.Slot.{Slot}
 use Rattle.mw_isa.specs.declared.vector.Vector.{Vector}
 use Rattle.mw_isa.specs.declared.vector.Vector.TheVariants.{Alignment, Program, FpUnavailable, VectorUnavailable, VsxUnavailable}
+use Rattle.mw_isa.specs.Faults.{fault_raises}
 use Rattle.mw_isa.specs.Fetch.{is_cut}
 use Rattle.mw_isa.specs.Msr.{bit_at, crossing_place, illegal_place}
 use Rattle.mw_isa.specs.Pages.{touches_of}
@@ -83,9 +84,10 @@ pub record Fares : Type 0 where
 abbrev pub misaligned_if : Bool → MemOp → Option Raised
 misaligned_if refused op = if refused then Some (misaligned op.ea) else None
 
--- the interrupt of an access whose pages were translated: a fault of a page raises nothing yet; one that is misplaced in real storage
+-- the interrupt of an access whose pages were translated: that of the first page's fault that there is; or of one that is
+-- misplaced in real storage
 abbrev pub place_raises : MemOp → Placed → Option Raised
-place_raises op (Err fault) = None
+place_raises op (Err fault) = Some (fault_raises fault.fault fault.page.kind fault.page.ea)
 place_raises op (Ok at) = misaligned_if (is_misplaced op at) op
 
 -- an access that wasn't translated, as an exclusive one isn't aligned

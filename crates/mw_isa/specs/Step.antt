@@ -12,6 +12,7 @@ use Rattle.mw_isa.specs.declared.long.LongOp.{LongOp}
 use Rattle.mw_isa.specs.declared.memory.MemOp.{MemOp}
 use Rattle.mw_isa.specs.declared.outcome.Outcome.{Outcome}
 use Rattle.mw_isa.specs.declared.outcome.Outcome.TheVariants.{Done, Long, Memory, System, Trap}
+use Rattle.mw_isa.specs.declared.pages.Page.{Page}
 use Rattle.mw_isa.specs.declared.pages.StorageFault.{StorageFault}
 use Rattle.mw_isa.specs.declared.pages.Stretches.{Stretches}
 use Rattle.mw_isa.specs.declared.raised.Raised.{Raised}
@@ -20,7 +21,7 @@ use Rattle.mw_isa.specs.declared.slot.Slot.{Slot}
 use Rattle.mw_isa.specs.declared.vector.Vector.{Vector}
 use Rattle.mw_isa.specs.declared.vector.Vector.TheVariants.{SystemCall}
 use Rattle.mw_isa.specs.State.{State}
-use Rattle.mw_isa.specs.Pages.{touch_of, real_at, stretches_of}
+use Rattle.mw_isa.specs.Pages.{touch_of, stretches_of}
 use Rattle.mw_isa.specs.Fetch.{behind, word_page, fetch_at, fetched}
 use Rattle.mw_isa.specs.Slots.{get_slot, set_targets}
 use Rattle.mw_isa.specs.Reads.{operands_of}
@@ -32,6 +33,7 @@ use Rattle.mw_isa.specs.Raises.{Placed, access_raises, earlier, fetch_raises, ou
 use Rattle.mw_isa.specs.Take.{taken}
 use Rattle.mw_isa.specs.Msr.{bit_at, prefixed_place}
 use Rattle.mw_isa.specs.System.{system_deed, system_done, system_next, system_raises, system_translates}
+use Rattle.mw_isa.specs.Translate.{page_real}
 use Rattle.mw_isa.specs.Words.{insn_of}
 
 -- what an instruction carries while it is under way, each part where the one before it is there and raises nothing
@@ -62,28 +64,28 @@ pub record Stepped : Type 0 where
 unfoldable pub outcome_of : Option Insn → ℕ → Regs → Option Outcome
 outcome_of insn at regs = option_and_then (λ insn. exec_of insn (operands_of insn regs) at) insn
 
--- where the access of an outcome stands, if it has one
-abbrev pub placed_of : Outcome → Option Placed
-placed_of (Done targets next) = None
-placed_of (Long op) = None
-placed_of (System op) = None
-placed_of (Trap vector cause) = None
-placed_of (Memory op) = Some (stretches_of real_at (pages_of op))
+-- where the access of an outcome stands, if it has one, by what tells each page's real address
+abbrev pub placed_of : (Page → Result ℕ StorageFault) → Outcome → Option Placed
+placed_of real (Done targets next) = None
+placed_of real (Long op) = None
+placed_of real (System op) = None
+placed_of real (Trap vector cause) = None
+placed_of real (Memory op) = Some (stretches_of real (pages_of op))
 
 -- what an instruction at an address carries, from its fetch and its words on
-abbrev pub under_way_of : Result ℕ StorageFault → Option Fetched → ℕ → Regs → UnderWay
-under_way_of real words at regs = record {
+abbrev pub under_way_of : Result ℕ StorageFault → Option Fetched → (Page → Result ℕ StorageFault) → ℕ → Regs → UnderWay
+under_way_of fetch words real at regs = record {
   cia = at;
-  real = real;
+  real = fetch;
   words = words;
   insn = option_and_then insn_of words;
   outcome = outcome_of (option_and_then insn_of words) at regs;
-  placed = option_and_then placed_of (outcome_of (option_and_then insn_of words) at regs);
+  placed = option_and_then (placed_of real) (outcome_of (option_and_then insn_of words) at regs);
 }
 
 -- what the next instruction carries
 unfoldable pub under_way : State → UnderWay
-under_way state = under_way_of (fetch_at state.regs.cia) (fetched state) state.regs.cia state.regs
+under_way state = under_way_of (fetch_at state.regs.cia) (fetched state) (page_real state.ram state.regs) state.regs.cia state.regs
 
 -- the interrupt that an outcome raises, by itself, by the number of a register under MSR, or by its access where it stands
 abbrev pub end_raises : Outcome → Option Placed → ℕ → Option Raised
@@ -110,18 +112,14 @@ first_raised it view msr =
 abbrev pub raises_of : UnderWay → (Slot → ℕ) → ℕ → Option Raised
 raises_of it view msr = option_map (marked it.words) (first_raised it view msr)
 
--- an outcome that is built: the pages of its access, if it has one, have no fault; the MSR that it leaves lets no address be
--- translated
-abbrev pub is_built_outcome : Outcome → Option Placed → Regs → Bool
-is_built_outcome (Memory op) (Some (Ok at)) regs = true
-is_built_outcome (Memory op) (Some (Err fault)) regs = false
-is_built_outcome (Memory op) None regs = false
-is_built_outcome (System op) placed regs = not (system_translates op regs)
-is_built_outcome outcome placed regs = true
+-- an outcome that is built: it doesn't write MSR so that instruction addresses are translated
+abbrev pub is_built_outcome : Outcome → Regs → Bool
+is_built_outcome (System op) regs = not (system_translates op regs)
+is_built_outcome outcome regs = true
 
 -- an instruction that is built: all that isn't stands here, beside the chain
 abbrev pub builds_by : UnderWay → Regs → Bool
-builds_by it regs = is_some it.words && option_map_or (λ outcome. is_built_outcome outcome it.placed regs) it.outcome true
+builds_by it regs = is_some it.words && option_map_or (λ outcome. is_built_outcome outcome regs) it.outcome true
 
 -- the next instruction is built
 unfoldable pub builds : State → Bool

@@ -1,5 +1,5 @@
 ghost use Rattle.std.specs.Prelude.{◌≡◌, ◌≤◌, ◌<◌, ◌^◌};
-ghost use Rattle.mw_isa.specs.Msr.{bit_at, is_translating, msr_from, msr_partly_from, with_bit, without_bit};
+ghost use Rattle.mw_isa.specs.Msr.{bit_at, msr_from, msr_partly_from, with_bit, without_bit};
 
 use crate::xer::has_bit;
 
@@ -14,6 +14,20 @@ pub const IR: u32 = 58;
 pub const DR: u32 = 59;
 /// The place of RI: an interrupt can be recovered from.
 pub const RI: u32 = 62;
+
+/// The place in SRR1 of a fetch, and in DSISR, of the cause that there is no translation (Book III, data storage and
+/// instruction storage interrupts; which bits tell a cause is this board's own choice).
+pub const NO_TRANSLATION: u32 = 33;
+/// The place in SRR1 of the cause that a translation doesn't permit the fetch.
+pub const FETCH_REFUSED: u32 = 35;
+/// The place in DSISR of the cause that a translation doesn't permit the access.
+pub const DATA_REFUSED: u32 = 36;
+/// The place in DSISR of the bit that tells of a store.
+pub const STORE: u32 = 38;
+/// The place in either of the cause that the tree isn't formed as it has to be.
+pub const BAD_TREE: u32 = 44;
+/// The place in either of the cause that the translation isn't marked as it has to be.
+pub const UNMARKED: u32 = 45;
 
 /// The place in SRR1 of the bit that tells that the interrupted instruction is prefixed (Book III, interrupt
 /// definitions; which bits of SRR1 tell a cause is this board's own choice).
@@ -79,11 +93,4 @@ pub fn msr_partly_from(source: u64, msr: u64) -> u64
 {
     let msr = with_bit(has_bit(source, RI), RI, msr);
     with_bit(has_bit(source, EE), EE, msr)
-}
-
-/// Whether MSR lets addresses of instructions or data be translated. It can't fail.
-pub fn is_translating(msr: u64) -> bool
-    ensures { result ≡ is_translating msr }
-{
-    has_bit(msr, IR) || has_bit(msr, DR)
 }

@@ -4,7 +4,9 @@ ghost use Rattle.mw_isa.specs.Storage.{IsSized, is_aligned, is_exclusive, is_mis
 ghost use Rattle.mw_isa.specs.Take.{IsUnmarked};
 
 use crate::address::is_in_ram;
-use mw_isa::{MemOp, MemWhat, Outcome, PageFault, Raised, Stretches, misaligned, raising};
+use mw_isa::{
+    MemOp, MemWhat, Outcome, PageFault, Raised, Stretches, fault_raises, misaligned, raising,
+};
 
 /// Whether the address of an access is a multiple of its length.
 fn is_aligned(op: &MemOp) -> bool
@@ -58,15 +60,15 @@ fn is_misplaced(op: &MemOp, at: &Stretches) -> bool
     !is_in_ram(at) && (!is_aligned(op) || needs_ram(op.what))
 }
 
-/// The interrupt of an access whose pages were translated: one that is misplaced raises an alignment
-/// interrupt; a fault of a page raises nothing yet.
+/// The interrupt of an access whose pages were translated: that of a page's fault, or the alignment interrupt of one
+/// that is misplaced.
 fn place_raises(op: &MemOp, placed: &Result<Stretches, PageFault>) -> Option<Raised>
     requires { 1 ≤ op.now.len }
     ensures value { result ≡ place_raises op.now placed.now }
     ensures cause { IfSome result (λ raised. IsUnmarked raised.cause) }
 {
     match placed {
-        Err(_) => None,
+        Err(wrong) => Some(fault_raises(wrong.fault, wrong.page.kind, wrong.page.ea)),
         Ok(at) => {
             if is_misplaced(op, at) {
                 Some(misaligned(op.ea))
@@ -78,8 +80,8 @@ fn place_raises(op: &MemOp, placed: &Result<Stretches, PageFault>) -> Option<Rai
 }
 
 /// The interrupt that an access raises where it stands, if it does: an exclusive one that isn't aligned an
-/// alignment interrupt, before its pages are looked at, and then one that is misplaced (Book III, alignment
-/// interrupt; which accesses have to be aligned is this board's own choice). It can't fail.
+/// alignment interrupt, before its pages are looked at, then the fault of a page, and then one that is misplaced
+/// (Book III, data storage, data segment and alignment interrupts; which accesses have to be aligned is this board's own choice). It can't fail.
 pub fn access_raises(op: &MemOp, placed: &Result<Stretches, PageFault>) -> Option<Raised>
     requires { IsSized op.now }
     ensures value { result ≡ (access_raises op.now placed.now).trap }

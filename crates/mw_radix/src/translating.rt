@@ -142,8 +142,9 @@ fn translated_in<T: Tables>(
     found_by(&end, kind, has_bit(regs.msr, PR), pid, ea)
 }
 
-/// Whether addresses of a kind are translated.
-fn is_translated(kind: Kind, msr: u64) -> bool
+/// Whether addresses of a kind are translated: those of fetches with IR, those of data with DR (Book III, machine state
+/// register). It can't fail.
+pub fn is_translated(kind: Kind, msr: u64) -> bool
     ensures { result ≡ is_translated kind msr }
 {
     match kind {

@@ -8,8 +8,8 @@ ghost use Rattle.mw_isa.specs.Take.{IsUnmarked};
 use crate::moving::{read, write};
 use crate::numbers::refusal_of;
 use mw_isa::{
-    ILLEGAL, PR, PRIVILEGED, Raised, Regs, Slot, SprRefusal, SysOp, Use, Vector, bit_at, has_bit,
-    is_translating, msr_from, msr_partly_from, raising, set_slot,
+    ILLEGAL, IR, PR, PRIVILEGED, Raised, Regs, Slot, SprRefusal, SysOp, Use, Vector, bit_at,
+    has_bit, msr_from, msr_partly_from, raising, set_slot,
 };
 use mw_soc::Devices;
 
@@ -75,13 +75,13 @@ fn msr_behind(op: &SysOp, regs: &Regs) -> u64
     }
 }
 
-/// Whether an instruction of the system writes MSR so that addresses are translated. It can't fail.
+/// Whether an instruction of the system writes MSR so that instruction addresses are translated. It can't fail.
 pub fn system_translates(op: &SysOp, regs: &Regs) -> bool
     ensures { result ≡ system_translates op.now regs.now }
 {
     match op {
-        SysOp::WriteMsr { .. } => is_translating(msr_behind(op, regs)),
-        SysOp::Return { .. } => is_translating(msr_behind(op, regs)),
+        SysOp::WriteMsr { .. } => has_bit(msr_behind(op, regs), IR),
+        SysOp::Return { .. } => has_bit(msr_behind(op, regs), IR),
         SysOp::ReadSpr { .. } => false,
         SysOp::WriteSpr { .. } => false,
         SysOp::Tlbie { .. } => false,

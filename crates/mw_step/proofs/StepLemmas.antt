@@ -17,6 +17,7 @@ use Rattle.mw_isa.specs.Execute.{exec_of}
 use Rattle.mw_isa.specs.Storage.{IsSized, OnMemory, IsPlaced}
 use Rattle.mw_isa.specs.Step.{IsKnown, OnLong, OnPlaced, step, marked, end_raises, placed_of, builds, is_built_outcome, state_behind}
 use Rattle.mw_isa.specs.Take.{IsCause}
+use Rattle.mw_isa.specs.Translate.{page_real}
 use Rattle.mw_isa.specs.Words.{decoded_of, insn_in, insn_of}
 use Rattle.mw_isa.proofs.RaiseLaws.{end-calm}
 use Rattle.mw_isa.proofs.StepLaws.{after-known, builds-known, builds-none, insn_of-cut, insn_of-whole, trap-known, trapped-fetch, trapped-words}
@@ -68,7 +69,7 @@ pub record Looked (state : State) (prepared : Prepared) (operands : Operands) (r
   pub insn_is : insn_of prepared.words ≡ Some prepared.insn
   pub operands_are : operands ≡ operands_of prepared.insn state.regs
   pub outcome : exec_of prepared.insn operands state.regs.cia ≡ Some prepared.outcome
-  pub placed : prepared.placed ≡ placed_of prepared.outcome
+  pub placed : prepared.placed ≡ placed_of (page_real state.ram state.regs) prepared.outcome
   pub raises : raised ≡ end_raises prepared.outcome prepared.placed state.regs.msr
   pub marks : prepared.raised ≡ option_map (marked (Some prepared.words)) raised
   pub cause : IfSome prepared.raised (λ it. IsCause it.cause)
@@ -104,10 +105,9 @@ looked-comes state prepared operands raised l calm = record {
 }
 
 -- whether an instruction that was looked at is built is told by what it comes to
-looked-built : (state : State) (prepared : Prepared) (operands : Operands) (raised : Option Raised) → Looked state prepared operands raised → builds state ≡ is_built_outcome prepared.outcome prepared.placed state.regs
+looked-built : (state : State) (prepared : Prepared) (operands : Operands) (raised : Option Raised) → Looked state prepared operands raised → builds state ≡ is_built_outcome prepared.outcome state.regs
 looked-built state prepared operands raised l =
     builds-known prepared.words prepared.insn prepared.outcome state (looked-known state prepared operands raised l)
-    ∙ ap (λ (place : Option Placed). is_built_outcome prepared.outcome place state.regs) (sym l.placed)
 
 -- an instruction that was looked at raises the interrupt that was found
 looked-trap : (state : State) (prepared : Prepared) (operands : Operands) (raised : Option Raised) → Looked state prepared operands raised → (step state).trap ≡ prepared.raised
@@ -118,7 +118,7 @@ looked-trap state prepared operands raised l =
     ∙ sym l.marks
 
 -- what is told of an instruction that was looked at
-pub looked-prepares : (state : State) (prepared : Prepared) (operands : Operands) (raised : Option Raised) (done : Bool) → Looked state prepared operands raised → done ≡ is_built_outcome prepared.outcome prepared.placed state.regs → Prepares prepared done state
+pub looked-prepares : (state : State) (prepared : Prepared) (operands : Operands) (raised : Option Raised) (done : Bool) → Looked state prepared operands raised → done ≡ is_built_outcome prepared.outcome state.regs → Prepares prepared done state
 looked-prepares state prepared operands raised true l e = record {
   words = l.there;
   built = looked-built state prepared operands raised l ∙ sym e;

@@ -1,5 +1,5 @@
 -- An access to storage, from what its parts gave.
-use Rattle.std.proofs.Common.{◌≡◌, ℕ, ◌+◌, ◌-◌, ◌%◌, ◌≤◌, Bool, true, false, cond, List, ◌++◌, length, take, replicate, Option, Some, None, sym, ap, ap₂, ◌∙◌, arith}
+use Rattle.std.proofs.Common.{◌≡◌, ℕ, ◌+◌, ◌-◌, ◌%◌, ◌≤◌, Bool, true, false, cond, List, ◌++◌, length, take, replicate, Option, Some, None, Ok, Err, sym, ap, ap₂, ◌∙◌, arith}
 use Rattle.std.specs.Option.{option_map_or}
 use Rattle.std.proofs.lemmas.Bool.{and_parts, leb-true}
 use Rattle.std.proofs.lemmas.List.{length-append}
@@ -10,11 +10,18 @@ use Rattle.mw_soc.specs.DeviceData.{DeviceData}
 use Rattle.mw_soc.specs.Map.{device_loaded}
 use Rattle.mw_soc.proofs.Laws.{length-device_loaded}
 use Rattle.mw_isa.specs.declared.memory.MemOp.{MemOp}
+use Rattle.mw_isa.specs.declared.outcome.Outcome.TheVariants.{Memory}
+use Rattle.mw_isa.specs.declared.pages.Pages.{Pages}
 use Rattle.mw_isa.specs.declared.pages.Stretch.{Stretch}
 use Rattle.mw_isa.specs.declared.pages.Stretches.{Stretches}
-use Rattle.mw_isa.specs.Pages.{size_of, is_ram, is_in_ram, bytes_by, bytes_in, laid_in}
-use Rattle.mw_isa.specs.Storage.{IsSized, IsPlaced, raises_alignment, load_bytes}
-use Rattle.mw_isa.proofs.PageLaws.{outside-single}
+use Rattle.mw_isa.specs.declared.regs.Regs.{Regs}
+use Rattle.mw_isa.specs.Pages.{size_of, is_ram, is_in_ram, bytes_by, bytes_in, laid_in, stretches_of}
+use Rattle.mw_isa.specs.Raises.{Placed}
+use Rattle.mw_isa.specs.Step.{OnPlaced}
+use Rattle.mw_isa.specs.Storage.{IsSized, IsPlaced, pages_of, raises_alignment, load_bytes}
+use Rattle.mw_isa.specs.Translate.{page_real}
+use Rattle.mw_isa.proofs.PageLaws.{outside-single, placed-by}
+use Rattle.mw_isa.proofs.WalkPageLaws.{walk-page}
 use Rattle.mw_loadstore.specs.Pieces.{pieces_in}
 use Rattle.mw_loadstore.proofs.LaidLemmas.{pieces_in-laid}
 
@@ -58,3 +65,9 @@ lay-pieces ram bytes op at pieces sized few p there are =
     let inside = leb-true (at.first.at + at.first.len) ram_size (and_parts (is_ram at.first) (option_map_or is_ram at.second true) there).0 in
     ap (λ (s : Stretches). laid_in ram s bytes) are
     ∙ pieces_in-laid ram at bytes (omega arith) (λ none. sized ∙ sym p.size ∙ ap (λ (o : Option Stretch). at.first.len + option_map_or (λ (s : Stretch). s.len) o 0) none ∙ omega arith)
+
+-- where an access stands by the tables and the registers is as is known of it
+pub access-stands : (ram : List ℕ) (regs : Regs) (op : MemOp) (pages : Pages) (placed : Placed) → pages ≡ pages_of op → placed ≡ stretches_of (page_real ram regs) pages → OnPlaced IsPlaced (Memory op) (Some placed)
+access-stands ram regs op pages (Ok at) p e =
+    placed-by (page_real ram regs) op at (walk-page ram regs) (ap (stretches_of (page_real ram regs)) (sym p) ∙ sym e)
+access-stands ram regs op pages (Err fault) p e = tt

@@ -9,6 +9,7 @@ use Rattle.mw_isa.specs.State.{State}
 use Rattle.mw_isa.specs.Fetch.{fetched, word_of, suffix_of}
 use Rattle.mw_isa.specs.Step.{IsKnown, CanFinish, placed_of, builds, step}
 use Rattle.mw_isa.specs.Take.{IsCause}
+use Rattle.mw_isa.specs.Translate.{page_real}
 use Rattle.mw_isa.specs.declared.raised.Raised.{Raised}
 use Rattle.mw_soc.specs.Devices.{cycle_of}
 use Rattle.mw_step.specs.declared.prepared.Prepared.{Prepared}
@@ -20,7 +21,7 @@ blank = record { words = record { word = 0; suffix = None }; insn = no_insn; out
 -- this is what the next instruction of a state is and comes to
 pub record ComesTo (prepared : Prepared) (state : State) : Type 0 where
   pub known : IsKnown prepared.words prepared.insn prepared.outcome state
-  pub placed : prepared.placed ≡ placed_of prepared.outcome
+  pub placed : prepared.placed ≡ placed_of (page_real state.ram state.regs) prepared.outcome
   -- the instruction is one of the table
   pub is : IsInsn prepared.insn
   -- the outcome is one that can be carried out

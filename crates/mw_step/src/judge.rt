@@ -31,24 +31,15 @@ pub fn end_raises(
     }
 }
 
-/// Whether an outcome is built: its access, if it has one, stands somewhere, and the MSR that it writes lets no
-/// address be translated.
-pub fn is_built_outcome(
-    outcome: &Outcome,
-    placed: &Option<Result<Stretches, PageFault>>,
-    regs: &Regs,
-) -> bool
-    ensures { result ≡ is_built_outcome outcome.now placed.now regs.now }
+/// Whether an outcome is built: it doesn't write MSR so that instruction addresses are translated.
+pub fn is_built_outcome(outcome: &Outcome, regs: &Regs) -> bool
+    ensures { result ≡ is_built_outcome outcome.now regs.now }
 {
     match outcome {
         Outcome::Done { .. } => true,
         Outcome::Long(_) => true,
         Outcome::Trap { .. } => true,
         Outcome::System(op) => !system_translates(op, regs),
-        Outcome::Memory(_) => match placed {
-            None => false,
-            Some(Err(_)) => false,
-            Some(Ok(_)) => true,
-        },
+        Outcome::Memory(_) => true,
     }
 }

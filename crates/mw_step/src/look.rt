@@ -53,12 +53,17 @@ fn prepare_insn(state: &State, prepared: &mut Prepared) -> bool
         state.regs.cia,
         &mut prepared.outcome,
     );
-    placed_of(&prepared.outcome, &mut prepared.placed);
+    placed_of(
+        &prepared.outcome,
+        &state.ram,
+        &state.regs,
+        &mut prepared.placed,
+    );
     prepared.raised = marked_if(
         &prepared.words,
         end_raises(&prepared.outcome, &prepared.placed, state.regs.msr),
     );
-    is_built_outcome(&prepared.outcome, &prepared.placed, &state.regs)
+    is_built_outcome(&prepared.outcome, &state.regs)
 }
 
 /// What is known of the next instruction before anything changes: its words, the interrupt that it raises, if
