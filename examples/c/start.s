@@ -1,14 +1,21 @@
 # What stands before main: the first instruction at 0, the vectors, and the end. A source of GNU as.
         .machine "power10"
+
+# A call through r12, where a function of C finds its own address and makes the address of its table (r2) of it.
+        .macro  calls function
+        lis     %r12, \function@ha
+        addi    %r12, %r12, \function@l
+        mtctr   %r12
+        bctrl
+        .endm
+
         .section .start, "ax"
         .globl  start
 start:  lis     %r1, stack_top@ha       # the stack: it grows down from the end of RAM
         addi    %r1, %r1, stack_top@l
-        lis     %r2, .TOC.@ha           # the table of addresses, for code below the level power10
-        addi    %r2, %r2, .TOC.@l
         li      %r0, 0
         stdu    %r0, -32(%r1)           # the first frame, whose caller is none
-        bl      main@notoc
+        calls   main
 here:   b       here                    # main returned
 
 # An interrupt that no program of these asks for stays at its vector, and cia tells which it was.
@@ -45,7 +52,7 @@ here:   b       here                    # main returned
         std     %r0, 144(%r1)
         mfcr    %r0
         std     %r0, 152(%r1)
-        bl      on_decrementer@notoc
+        calls   on_decrementer
         ld      %r0, 128(%r1)
         mtlr    %r0
         ld      %r0, 136(%r1)
