@@ -31,6 +31,7 @@ here:   b       here                    # main returned
 # The decrementer: what a function of C may change is kept, and on_decrementer is called. Below r1 there are 288 bytes
 # that a function uses without making a frame, so this frame goes below them.
         .org    0x900
+decrementer:
         stdu    %r1, -448(%r1)
         std     %r0, 32(%r1)
         std     %r2, 40(%r1)
