@@ -7,23 +7,24 @@ import unittest
 
 from base import ToolTest
 
-# A stand-in of `mw asm SOURCE`: the image is the source, and a source with `bad` is refused.
-MW = r'''#!/usr/bin/env python3
-import sys
-assert sys.argv[1:] == ["asm", "bad.s"]
-text = open("bad.s", newline="").read()
-if "bad" in text or len(text) > 1000:
-    print("mw: bad.s:1:%d: bad input" % (min(len(text), 1000)), file=sys.stderr)
-    sys.exit(6)
-sys.stdout.write(text)
+# A stand-in of `mw asm bad.s`: the image is the source, and a source with `bad`, or of more than 1,000 bytes, is refused.
+MW = r'''#!/bin/sh
+[ "$*" = "asm bad.s" ] || exit 2
+size=$(wc -c < bad.s)
+[ "$size" -gt 1000 ] && size=1000
+if grep -q bad bad.s || [ "$size" = 1000 ]; then
+  echo "mw: bad.s:1:$((size)): bad input" >&2
+  exit 6
+fi
+cat bad.s
 '''
 # Stand-ins of the tools of GNU: the object is the source with `ours` in the place of `theirs`, and so is the image.
-AS = r'''#!/usr/bin/env python3
-import sys
-text = open(sys.argv[-1]).read()
-if "none" in text:
-    sys.exit("gnu.s:2: Error: unrecognized opcode")
-open(sys.argv[-2], "w").write(text.replace("theirs", "ours"))
+AS = r'''#!/bin/sh
+if grep -q none gnu.s; then
+  echo "gnu.s:2: Error: unrecognized opcode" >&2
+  exit 1
+fi
+sed s/theirs/ours/ gnu.s > gnu.o
 '''
 OBJCOPY = "#!/bin/sh\ncp gnu.o gnu.img\n"
 PAGE = r'''# A page
@@ -52,7 +53,6 @@ class AsmPageTest(ToolTest):
         self.write_program("bin/mw", MW)
         self.write_program("path/powerpc64le-linux-gnu-as", AS)
         self.write_program("path/powerpc64le-linux-gnu-objcopy", OBJCOPY)
-        os.symlink(sys.executable, os.path.join(self.folder, "path", "python3"))
 
     def check_page(self, page, status, output, errors, words=()):
         """Checks what is said of a page."""
