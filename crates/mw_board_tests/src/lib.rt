@@ -17,3 +17,5 @@ mod sprs;
 mod storage;
 #[cfg(test)]
 mod stretches;
+#[cfg(test)]
+mod walks;
