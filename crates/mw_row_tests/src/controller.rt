@@ -1,4 +1,5 @@
 use crate::alone::{OTHER, first, lay, retires};
+use crate::left::leaves;
 use mw_board::simulate;
 use mw_isa::{Event, State};
 use mw_soc::Devices;
@@ -64,14 +65,7 @@ fn programs_meet_the_controller(rt: HostRuntime) -> Result<(), Fail> {
                 let cia = run.state.regs.cia;
                 assert_eq!(rt; cia.wrapping_add(4), image.len() as u64, "CIA of {words:?}");
                 assert!(rt; all_retire(run.events.as_slice()), "{words:?}");
-                for (number, content) in *contents {
-                    assert!(rt; *number < 32);
-                    assert_eq!(rt;
-                        run.state.regs.gpr[*number],
-                        *content,
-                        "r{number} of {words:?}"
-                    );
-                }
+                leaves(&rt, &run, contents, &[], words)?;
             }
             Err(fault) => panic!(rt; "{fault:?} at {words:?}"),
         }

@@ -14,6 +14,8 @@ mod controller;
 #[cfg(test)]
 mod interrupts;
 #[cfg(test)]
+mod left;
+#[cfg(test)]
 mod logic;
 #[cfg(test)]
 mod numbers;

@@ -1,8 +1,8 @@
+use crate::left::traps_in;
 use crate::numbers::Register::{
     Ctr, Dar, Dec, Dsisr, Hsprg0, Hsprg1, Hsrr0, Hsrr1, Lr, Pidr, Prtbl, Sprg0, Sprg1, Sprg2,
     Sprg3, Srr0, Srr1, Tar, Xer,
 };
-use crate::system::traps_in;
 use mw_board::{Run, simulate};
 use mw_uart::Script;
 use std::alloc::{AllocError as NoMemory, Global};

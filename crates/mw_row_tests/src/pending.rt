@@ -1,5 +1,6 @@
-use crate::system::Name::{Cia, Dec, Msr, Srr0, Srr1, Traps};
-use crate::system::{Name, content_of, image_of};
+use crate::left::Name::{Cia, Dec, Msr, Srr0, Srr1, Traps};
+use crate::left::{Name, leaves};
+use crate::system::image_of;
 use mw_board::simulate;
 use mw_isa::{Event, Vector};
 use mw_uart::{Script, read_script};
@@ -101,17 +102,7 @@ fn interrupts_are_taken_at_once(rt: HostRuntime) -> Result<(), Fail> {
             Ok(run) => {
                 let taken = interrupts_of(run.events.as_slice(), *first);
                 assert_eq!(rt; taken, (true, *count), "{parts:?}");
-                for (number, content) in *contents {
-                    assert!(rt; *number < 32);
-                    assert_eq!(rt;
-                        run.state.regs.gpr[*number],
-                        *content,
-                        "r{number} of {parts:?}"
-                    );
-                }
-                for (name, content) in *names {
-                    assert_eq!(rt; content_of(&run, *name), *content, "{name:?} of {parts:?}");
-                }
+                leaves(&rt, &run, contents, names, parts)?;
             }
             Err(fault) => panic!(rt; "{fault:?} at {parts:?}"),
         }

@@ -1,3 +1,4 @@
+use crate::left::leaves;
 use mw_board::simulate;
 use mw_uart::Script;
 use std::alloc::{AllocError as NoMemory, Global};
@@ -141,14 +142,7 @@ fn programs_of_results(rt: HostRuntime) -> Result<(), Fail> {
                     [*cr, 16],
                     "CR after {n} of {words:?}"
                 );
-                for (number, content) in *contents {
-                    assert!(rt; *number < 32);
-                    assert_eq!(rt;
-                        run.state.regs.gpr[*number],
-                        *content,
-                        "r{number} after {n} of {words:?}"
-                    );
-                }
+                leaves(&rt, &run, contents, &[], &(*n, *words))?;
             }
             Err(fault) => panic!(rt; "{fault:?} at {words:?}"),
         }

@@ -1,23 +1,9 @@
-use crate::system::Name::{Cia, Dec, Msr, Sprg3, Srr0, Srr1, Traps, Xer};
-use mw_board::{Run, RunFault, simulate};
-use mw_isa::Event;
+use crate::left::Name::{Cia, Dec, Msr, Sprg3, Srr0, Srr1, Traps, Xer};
+use crate::left::{Name, leaves};
+use mw_board::{RunFault, simulate};
 use mw_uart::Script;
 use std::alloc::{AllocError as NoMemory, Global};
 use std::test::Fail;
-
-/// What is looked at behind a run, beside the general purpose registers.
-#[derive(Clone, Copy, Debug)]
-pub enum Name {
-    Cia,
-    Msr,
-    Srr0,
-    Srr1,
-    Sprg3,
-    Xer,
-    Dec,
-    /// The number of events that are traps.
-    Traps,
-}
 
 /// The words of an image with their addresses, a number of cycles, and the general purpose registers and others with their
 /// contents behind them.
@@ -74,32 +60,6 @@ pub fn image_of(alloc: Global, parts: &[(usize, &[u32])]) -> Result<Vec<u8>, NoM
     Ok(image)
 }
 
-/// How many events are traps.
-pub fn traps_in(events: &[Event]) -> u64 {
-    let mut count = 0u64;
-    for event in events {
-        if let Event::Trap { .. } = event {
-            count = count.wrapping_add(1);
-        }
-    }
-    count
-}
-
-/// What a run left of this name.
-pub fn content_of(run: &Run, name: Name) -> u64 {
-    let regs = &run.state.regs;
-    match name {
-        Cia => regs.cia,
-        Msr => regs.msr,
-        Srr0 => regs.srr0,
-        Srr1 => regs.srr1,
-        Sprg3 => regs.sprg[3],
-        Xer => regs.xer,
-        Dec => u64::from(run.state.devices.dec()),
-        Traps => traps_in(run.events.as_slice()),
-    }
-}
-
 #[test]
 fn rows_of_the_system_leave_what_they_should(rt: HostRuntime) -> Result<(), Fail> {
     let alloc = rt.alloc();
@@ -108,17 +68,7 @@ fn rows_of_the_system_leave_what_they_should(rt: HostRuntime) -> Result<(), Fail
         let image = image_of(alloc, *parts)?;
         match simulate(alloc, image.as_slice(), &Script::new(alloc), *n) {
             Ok(run) => {
-                for (number, content) in *contents {
-                    assert!(rt; *number < 32);
-                    assert_eq!(rt;
-                        run.state.regs.gpr[*number],
-                        *content,
-                        "r{number} of {parts:?}"
-                    );
-                }
-                for (name, content) in *names {
-                    assert_eq!(rt; content_of(&run, *name), *content, "{name:?} of {parts:?}");
-                }
+                leaves(&rt, &run, contents, names, parts)?;
             }
             Err(fault) => panic!(rt; "{fault:?} at {parts:?}"),
         }
