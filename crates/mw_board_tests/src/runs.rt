@@ -57,8 +57,8 @@ struct Refused(&'static [u32], u64, RunFault);
 #[rattlefmt::skip]
 static REFUSED: [Refused; 4] = [
     Refused(&[0x3880_0020, 0x7c80_0164], 2, RunFault::Unbuilt { cycle: 1, cia: 4 }), // li r4,0x20; mtmsrd r4,0
-    Refused(&[0x3880_0010, 0x4800_0008, 0, 0x7c80_0124], 9, RunFault::Unbuilt { cycle: 2, cia: 12 }), // li r4,0x10; b 12; mtmsr r4,0
-    Refused(&[0x0600_0000, 0x3880_0010, 0x7c80_0164], 3, RunFault::Unbuilt { cycle: 1, cia: 8 }), // paddi r4,0,0x10; mtmsrd r4,0
+    Refused(&[0x3880_4000, 0x4800_0008, 0, 0x7c80_0124], 9, RunFault::Unbuilt { cycle: 2, cia: 12 }), // li r4,0x4000; b 12; mtmsr r4,0
+    Refused(&[0x0600_0000, 0x3880_0020, 0x7c80_0164], 3, RunFault::Unbuilt { cycle: 1, cia: 8 }), // paddi r4,0,0x20; mtmsrd r4,0
     Refused(&[0x3880_0020, 0x7c9b_03a6, 0x4c00_0024], 9, RunFault::Unbuilt { cycle: 2, cia: 8 }), // li r4,0x20; mtspr 27,r4; rfid
 ];
 
@@ -86,7 +86,7 @@ fn what_is_not_built_is_refused(rt: HostRuntime) -> Result<(), Fail> {
 struct Program(&'static [u32], u64, u64, &'static [(usize, u64)]);
 
 #[rattlefmt::skip]
-static PROGRAMS: [Program; 7] = [
+static PROGRAMS: [Program; 8] = [
     // addi r3,0,5, and zeros behind it that aren't reached
     Program(&[0x3860_0005], 1, 4, &[(3, 5)]),
     // addis r3,0,4660; ori r3,r3,22136; addi r4,0,-1; add r5,r3,r4; b .
@@ -104,6 +104,8 @@ static PROGRAMS: [Program; 7] = [
     // paddi r3,0,24,1; pld r4,16(0),1; pnop with a suffix that would be a branch; plwa r5,-4(r3),0; b .
     Program(&[0x0610_0000, 0x3860_0020, 0x0410_0000, 0xe480_0018, 0x0700_0000, 0x4bff_fffc, 0x0403_ffff, 0xa4a3_fffc, 0x4800_0000], 8, 32,
         &[(3, 32), (4, 0x4800_0000), (5, 0xffff_ffff_a4a3_fffc)]),
+    // li r4,0x10; mtmsrd r4,0; mfmsr r5; b .
+    Program(&[0x3880_0010, 0x7c80_0164, 0x7ca0_00a6, 0x4800_0000], 5, 12, &[(5, 0x9000_0000_0000_1011)]),
 ];
 
 #[test]

@@ -32,6 +32,8 @@ mod sums;
 #[cfg(test)]
 mod system;
 #[cfg(test)]
+mod translated;
+#[cfg(test)]
 mod traps;
 #[cfg(test)]
 mod units;

@@ -15,7 +15,7 @@ struct Row(
 );
 
 #[rattlefmt::skip]
-static ROWS: [Row; 10] = [
+static ROWS: [Row; 14] = [
     // sc; .org 0xc00; mfspr r3,26; b .
     Row(&[(0, &[0x4400_0002]), (0xc00, &[0x7c7a_02a6, 0x4800_0000])], 9, &[(3, 4)], &[(Srr0, 4), (Srr1, 0x9000_0000_0000_1001), (Cia, 0xc04), (Traps, 1)]),
     // mfspr r3,4; .org 0x700; b .
@@ -36,16 +36,25 @@ static ROWS: [Row; 10] = [
     Row(&[(0, &[0x3860_0043, 0x7c7a_4ba6, 0x3880_0000, 0x7c9b_4ba6, 0x4c00_0224]), (0x40, &[0x4800_0000])], 6, &[], &[(Srr0, 0), (Msr, 0x9000_0000_0000_1001), (Cia, 0x40), (Traps, 0)]),
     // eieio; tlbsync; tlbie r3,r4,0,0,0; tlbiel r3,r4,1,0,0; b .
     Row(&[(0, &[0x7c00_06ac, 0x7c00_046c, 0x7c80_1a64, 0x7c84_1a24, 0x4800_0000])], 9, &[], &[(Msr, 0x9000_0000_0000_1001), (Cia, 0x10), (Traps, 0)]),
+    // data in quadrant 2: li r6,1; rldicr r6,r6,63,0; li r4,0x10; mtmsrd r4,0; mfmsr r5; ld r7,0(r6); .org 0x380; b .
+    Row(&[(0, &[0x38c0_0001, 0x78c6_f806, 0x3880_0010, 0x7c80_0164, 0x7ca0_00a6, 0xe8e6_0000]), (0x380, &[0x4800_0000])], 9, &[(5, 0x9000_0000_0000_1011), (7, 0)], &[(Srr0, 0x14), (Srr1, 0x9000_0000_0000_1011), (Msr, 0x9000_0000_0000_1001), (Cia, 0x380), (Traps, 1)]),
+    // li r6,1; rldicr r6,r6,63,0; li r4,0x10; mtmsr r4,0; mfmsr r5; ld r7,0(r6); .org 0x380; b .
+    Row(&[(0, &[0x38c0_0001, 0x78c6_f806, 0x3880_0010, 0x7c80_0124, 0x7ca0_00a6, 0xe8e6_0000]), (0x380, &[0x4800_0000])], 9, &[(5, 0x9000_0000_0000_1011), (7, 0)], &[(Srr0, 0x14), (Srr1, 0x9000_0000_0000_1011), (Msr, 0x9000_0000_0000_1001), (Cia, 0x380), (Traps, 1)]),
+    // li r6,1; rldicr r6,r6,63,0; li r4,0x10; mtspr 27,r4; li r3,0x40; mtspr 26,r3; rfid; .org 0x40; mfmsr r5; ld r7,0(r6); .org 0x380; b .
+    Row(&[(0, &[0x38c0_0001, 0x78c6_f806, 0x3880_0010, 0x7c9b_03a6, 0x3860_0040, 0x7c7a_03a6, 0x4c00_0024]), (0x40, &[0x7ca0_00a6, 0xe8e6_0000]), (0x380, &[0x4800_0000])], 12, &[(5, 0x9000_0000_0000_1011), (7, 0)], &[(Srr0, 0x44), (Srr1, 0x9000_0000_0000_1011), (Msr, 0x9000_0000_0000_1001), (Cia, 0x380), (Traps, 1)]),
+    // li r6,1; rldicr r6,r6,63,0; li r4,0x10; mtspr 315,r4; li r3,0x40; mtspr 314,r3; hrfid; .org 0x40; mfmsr r5; ld r7,0(r6); .org 0x380; b .
+    Row(&[(0, &[0x38c0_0001, 0x78c6_f806, 0x3880_0010, 0x7c9b_4ba6, 0x3860_0040, 0x7c7a_4ba6, 0x4c00_0224]), (0x40, &[0x7ca0_00a6, 0xe8e6_0000]), (0x380, &[0x4800_0000])], 12, &[(5, 0x9000_0000_0000_1011), (7, 0)], &[(Srr0, 0x44), (Srr1, 0x9000_0000_0000_1011), (Msr, 0x9000_0000_0000_1001), (Cia, 0x380), (Traps, 1)]),
 ];
 
-/// Words of which the last one isn't built, as MSR would let addresses be translated.
+/// Words of which the last one isn't built, as MSR would let the addresses of instructions be translated.
 #[rattlefmt::skip]
-static TRANSLATING: [&[u32]; 5] = [
-    &[0x7c80_00a6, 0x6088_0010, 0x7d00_0164], // mfmsr r4; ori r8,r4,16; mtmsrd r8,0
+static TRANSLATING: [&[u32]; 6] = [
+    &[0x7c80_00a6, 0x6088_0020, 0x7d00_0164], // mfmsr r4; ori r8,r4,32; mtmsrd r8,0
+    &[0x3880_0030, 0x7c81_0164, 0x7c80_0164], // li r4,0x30; mtmsrd r4,1; mtmsrd r4,0
     &[0x3880_0020, 0x7c81_0164, 0x7c80_0164], // li r4,0x20; mtmsrd r4,1; mtmsrd r4,0
     &[0x3880_4000, 0x7c81_0164, 0x7c80_0124], // li r4,0x4000; mtmsrd r4,1; mtmsr r4,0
     &[0x3880_4000, 0x7c9b_03a6, 0x4c00_0024], // li r4,0x4000; mtspr 27,r4; rfid
-    &[0x3880_0010, 0x7c9b_4ba6, 0x4c00_0224], // li r4,0x10; mtspr 315,r4; hrfid
+    &[0x3880_0020, 0x7c9b_4ba6, 0x4c00_0224], // li r4,0x20; mtspr 315,r4; hrfid
 ];
 
 /// The bytes of words at rising addresses, in little-endian order, and zeros between them.
@@ -77,7 +86,7 @@ fn rows_of_the_system_leave_what_they_should(rt: HostRuntime) -> Result<(), Fail
 }
 
 #[test]
-fn nothing_is_translated(rt: HostRuntime) -> Result<(), Fail> {
+fn no_fetch_is_translated(rt: HostRuntime) -> Result<(), Fail> {
     let alloc = rt.alloc();
     for words in &TRANSLATING {
         let image = image_of(alloc, &[(0, *words)])?;
