@@ -259,31 +259,31 @@ fn levels_lead_to_leaves(rt: HostRuntime) -> Result<(), Fail> {
 const ALLOWED: Found = Ok(0x7123);
 
 /// The low bits of a leaf, which are R, C and EAA; what a fetch, a load and a store find with PR=0, and with PR=1.
-struct Marks(u64, [Found; 3], [Found; 3]);
+struct Marks(u64, &'static [Found], &'static [Found]);
 
 #[rattlefmt::skip]
 static MARKS: [Marks; 17] = [
     // R and C are set: nothing, execute, read and write, read, all three
-    Marks(0x180, [REFUSED, REFUSED, REFUSED], [REFUSED, REFUSED, REFUSED]),
-    Marks(0x181, [ALLOWED, REFUSED, REFUSED], [ALLOWED, REFUSED, REFUSED]),
-    Marks(0x182, [REFUSED, ALLOWED, ALLOWED], [REFUSED, ALLOWED, ALLOWED]),
-    Marks(0x184, [REFUSED, ALLOWED, REFUSED], [REFUSED, ALLOWED, REFUSED]),
-    Marks(0x187, [ALLOWED, ALLOWED, ALLOWED], [ALLOWED, ALLOWED, ALLOWED]),
+    Marks(0x180, &[REFUSED, REFUSED, REFUSED], &[REFUSED, REFUSED, REFUSED]),
+    Marks(0x181, &[ALLOWED, REFUSED, REFUSED], &[ALLOWED, REFUSED, REFUSED]),
+    Marks(0x182, &[REFUSED, ALLOWED, ALLOWED], &[REFUSED, ALLOWED, ALLOWED]),
+    Marks(0x184, &[REFUSED, ALLOWED, REFUSED], &[REFUSED, ALLOWED, REFUSED]),
+    Marks(0x187, &[ALLOWED, ALLOWED, ALLOWED], &[ALLOWED, ALLOWED, ALLOWED]),
     // the same with the privileged bit
-    Marks(0x188, [REFUSED, REFUSED, REFUSED], [REFUSED, REFUSED, REFUSED]),
-    Marks(0x189, [ALLOWED, REFUSED, REFUSED], [REFUSED, REFUSED, REFUSED]),
-    Marks(0x18a, [REFUSED, ALLOWED, ALLOWED], [REFUSED, REFUSED, REFUSED]),
-    Marks(0x18c, [REFUSED, ALLOWED, REFUSED], [REFUSED, REFUSED, REFUSED]),
-    Marks(0x18f, [ALLOWED, ALLOWED, ALLOWED], [REFUSED, REFUSED, REFUSED]),
+    Marks(0x188, &[REFUSED, REFUSED, REFUSED], &[REFUSED, REFUSED, REFUSED]),
+    Marks(0x189, &[ALLOWED, REFUSED, REFUSED], &[REFUSED, REFUSED, REFUSED]),
+    Marks(0x18a, &[REFUSED, ALLOWED, ALLOWED], &[REFUSED, REFUSED, REFUSED]),
+    Marks(0x18c, &[REFUSED, ALLOWED, REFUSED], &[REFUSED, REFUSED, REFUSED]),
+    Marks(0x18f, &[ALLOWED, ALLOWED, ALLOWED], &[REFUSED, REFUSED, REFUSED]),
     // all three without C, without R, and without both
-    Marks(0x107, [ALLOWED, ALLOWED, UNMARKED], [ALLOWED, ALLOWED, UNMARKED]),
-    Marks(0x087, [UNMARKED, UNMARKED, UNMARKED], [UNMARKED, UNMARKED, UNMARKED]),
-    Marks(0x007, [UNMARKED, UNMARKED, UNMARKED], [UNMARKED, UNMARKED, UNMARKED]),
+    Marks(0x107, &[ALLOWED, ALLOWED, UNMARKED], &[ALLOWED, ALLOWED, UNMARKED]),
+    Marks(0x087, &[UNMARKED, UNMARKED, UNMARKED], &[UNMARKED, UNMARKED, UNMARKED]),
+    Marks(0x007, &[UNMARKED, UNMARKED, UNMARKED], &[UNMARKED, UNMARKED, UNMARKED]),
     // the permission comes before R and C
-    Marks(0x000, [REFUSED, REFUSED, REFUSED], [REFUSED, REFUSED, REFUSED]),
-    Marks(0x104, [REFUSED, ALLOWED, REFUSED], [REFUSED, ALLOWED, REFUSED]),
-    Marks(0x004, [REFUSED, UNMARKED, REFUSED], [REFUSED, UNMARKED, REFUSED]),
-    Marks(0x00f, [UNMARKED, UNMARKED, UNMARKED], [REFUSED, REFUSED, REFUSED]),
+    Marks(0x000, &[REFUSED, REFUSED, REFUSED], &[REFUSED, REFUSED, REFUSED]),
+    Marks(0x104, &[REFUSED, ALLOWED, REFUSED], &[REFUSED, ALLOWED, REFUSED]),
+    Marks(0x004, &[REFUSED, UNMARKED, REFUSED], &[REFUSED, UNMARKED, REFUSED]),
+    Marks(0x00f, &[UNMARKED, UNMARKED, UNMARKED], &[REFUSED, REFUSED, REFUSED]),
 ];
 
 #[test]
@@ -292,13 +292,15 @@ fn leaves_permit_and_are_marked(rt: HostRuntime) -> Result<(), Fail> {
     for Marks(low, privileged, problem) in &MARKS {
         lay(&mut ram, &[Word(0x3_2000, 0xc000_0000_0000_7000 | *low)]);
         let regs = regs_with(FETCHES | DATA, 0x1_0000, 1);
-        assert!(rt;
-            found_by_kinds(&ram, &regs, 0x123) == *privileged,
+        assert_eq!(rt;
+            found_by_kinds(&ram, &regs, 0x123).as_slice(),
+            *privileged,
             "{low:x} with PR=0"
         );
         let regs = regs_with(FETCHES | DATA | PROBLEM, 0x1_0000, 1);
-        assert!(rt;
-            found_by_kinds(&ram, &regs, 0x123) == *problem,
+        assert_eq!(rt;
+            found_by_kinds(&ram, &regs, 0x123).as_slice(),
+            *problem,
             "{low:x} with PR=1"
         );
     }
@@ -306,35 +308,35 @@ fn leaves_permit_and_are_marked(rt: HostRuntime) -> Result<(), Fail> {
 }
 
 /// Bits of MSR, PIDR, an effective address, and what a fetch, a load and a store find.
-struct Quadrant(u64, u32, u64, [Found; 3]);
+struct Quadrant(u64, u32, u64, &'static [Found]);
 
 /// Addresses in each quadrant, with translation on and off. Process 0 has a page of 2^39 bytes at real address
 /// 8000000000, and another one with the last of its addresses.
 #[rattlefmt::skip]
 static QUADRANTS: [Quadrant; 20] = [
     // quadrant 0 is the process's of PIDR, and 3 process 0's
-    Quadrant(FETCHES | DATA, 1, 0x0000_0000_0000_0123, [Ok(0x123), Ok(0x123), Ok(0x123)]),
-    Quadrant(FETCHES | DATA, 0, 0x0000_0000_0000_0123, [Ok(0x80_0000_0123), Ok(0x80_0000_0123), Ok(0x80_0000_0123)]),
-    Quadrant(FETCHES | DATA, 1, 0xc000_0000_0000_0123, [Ok(0x80_0000_0123), Ok(0x80_0000_0123), Ok(0x80_0000_0123)]),
-    Quadrant(FETCHES | DATA, 0, 0xc000_0000_0000_0123, [Ok(0x80_0000_0123), Ok(0x80_0000_0123), Ok(0x80_0000_0123)]),
-    Quadrant(FETCHES | DATA, 256, 0xc000_0000_0000_0123, [Ok(0x80_0000_0123), Ok(0x80_0000_0123), Ok(0x80_0000_0123)]),
-    Quadrant(FETCHES | DATA, 256, 0x0000_0000_0000_0123, [NOTHING, NOTHING, NOTHING]),
+    Quadrant(FETCHES | DATA, 1, 0x0000_0000_0000_0123, &[Ok(0x123), Ok(0x123), Ok(0x123)]),
+    Quadrant(FETCHES | DATA, 0, 0x0000_0000_0000_0123, &[Ok(0x80_0000_0123), Ok(0x80_0000_0123), Ok(0x80_0000_0123)]),
+    Quadrant(FETCHES | DATA, 1, 0xc000_0000_0000_0123, &[Ok(0x80_0000_0123), Ok(0x80_0000_0123), Ok(0x80_0000_0123)]),
+    Quadrant(FETCHES | DATA, 0, 0xc000_0000_0000_0123, &[Ok(0x80_0000_0123), Ok(0x80_0000_0123), Ok(0x80_0000_0123)]),
+    Quadrant(FETCHES | DATA, 256, 0xc000_0000_0000_0123, &[Ok(0x80_0000_0123), Ok(0x80_0000_0123), Ok(0x80_0000_0123)]),
+    Quadrant(FETCHES | DATA, 256, 0x0000_0000_0000_0123, &[NOTHING, NOTHING, NOTHING]),
     // the ends of the quadrants
-    Quadrant(FETCHES | DATA, 1, 0x3fff_ffff_ffff_ffff, [SEGMENT, SEGMENT, SEGMENT]),
-    Quadrant(FETCHES | DATA, 1, 0x4000_0000_0000_0123, [SEGMENT, SEGMENT, SEGMENT]),
-    Quadrant(FETCHES | DATA, 1, 0x7fff_ffff_ffff_ffff, [SEGMENT, SEGMENT, SEGMENT]),
-    Quadrant(FETCHES | DATA, 1, 0x8000_0000_0000_0123, [SEGMENT, SEGMENT, SEGMENT]),
-    Quadrant(FETCHES | DATA, 1, 0xbfff_ffff_ffff_ffff, [SEGMENT, SEGMENT, SEGMENT]),
-    Quadrant(FETCHES | DATA, 1, 0xc00f_ffff_ffff_ffff, [Ok(0x1ff_ffff_ffff), Ok(0x1ff_ffff_ffff), Ok(0x1ff_ffff_ffff)]),
-    Quadrant(FETCHES | DATA, 1, 0xc010_0000_0000_0000, [SEGMENT, SEGMENT, SEGMENT]),
-    Quadrant(FETCHES | DATA, 1, 0xffff_ffff_ffff_ffff, [SEGMENT, SEGMENT, SEGMENT]),
+    Quadrant(FETCHES | DATA, 1, 0x3fff_ffff_ffff_ffff, &[SEGMENT, SEGMENT, SEGMENT]),
+    Quadrant(FETCHES | DATA, 1, 0x4000_0000_0000_0123, &[SEGMENT, SEGMENT, SEGMENT]),
+    Quadrant(FETCHES | DATA, 1, 0x7fff_ffff_ffff_ffff, &[SEGMENT, SEGMENT, SEGMENT]),
+    Quadrant(FETCHES | DATA, 1, 0x8000_0000_0000_0123, &[SEGMENT, SEGMENT, SEGMENT]),
+    Quadrant(FETCHES | DATA, 1, 0xbfff_ffff_ffff_ffff, &[SEGMENT, SEGMENT, SEGMENT]),
+    Quadrant(FETCHES | DATA, 1, 0xc00f_ffff_ffff_ffff, &[Ok(0x1ff_ffff_ffff), Ok(0x1ff_ffff_ffff), Ok(0x1ff_ffff_ffff)]),
+    Quadrant(FETCHES | DATA, 1, 0xc010_0000_0000_0000, &[SEGMENT, SEGMENT, SEGMENT]),
+    Quadrant(FETCHES | DATA, 1, 0xffff_ffff_ffff_ffff, &[SEGMENT, SEGMENT, SEGMENT]),
     // translation is off for data, for fetches, for both: the low 60 bits, also in problem state
-    Quadrant(FETCHES, 1, 0x9123_4567_89ab_cdef, [SEGMENT, Ok(0x0123_4567_89ab_cdef), Ok(0x0123_4567_89ab_cdef)]),
-    Quadrant(DATA, 1, 0x9123_4567_89ab_cdef, [Ok(0x0123_4567_89ab_cdef), SEGMENT, SEGMENT]),
-    Quadrant(0, 1, 0xffff_ffff_ffff_ffff, [Ok(0x0fff_ffff_ffff_ffff), Ok(0x0fff_ffff_ffff_ffff), Ok(0x0fff_ffff_ffff_ffff)]),
-    Quadrant(PROBLEM, 1, 0x4800_0000_0000_0123, [Ok(0x0800_0000_0000_0123), Ok(0x0800_0000_0000_0123), Ok(0x0800_0000_0000_0123)]),
-    Quadrant(FETCHES, 1, 0xc000_0000_0000_0123, [Ok(0x80_0000_0123), Ok(0x123), Ok(0x123)]),
-    Quadrant(DATA, 1, 0xc000_0000_0000_0123, [Ok(0x123), Ok(0x80_0000_0123), Ok(0x80_0000_0123)]),
+    Quadrant(FETCHES, 1, 0x9123_4567_89ab_cdef, &[SEGMENT, Ok(0x0123_4567_89ab_cdef), Ok(0x0123_4567_89ab_cdef)]),
+    Quadrant(DATA, 1, 0x9123_4567_89ab_cdef, &[Ok(0x0123_4567_89ab_cdef), SEGMENT, SEGMENT]),
+    Quadrant(0, 1, 0xffff_ffff_ffff_ffff, &[Ok(0x0fff_ffff_ffff_ffff), Ok(0x0fff_ffff_ffff_ffff), Ok(0x0fff_ffff_ffff_ffff)]),
+    Quadrant(PROBLEM, 1, 0x4800_0000_0000_0123, &[Ok(0x0800_0000_0000_0123), Ok(0x0800_0000_0000_0123), Ok(0x0800_0000_0000_0123)]),
+    Quadrant(FETCHES, 1, 0xc000_0000_0000_0123, &[Ok(0x80_0000_0123), Ok(0x123), Ok(0x123)]),
+    Quadrant(DATA, 1, 0xc000_0000_0000_0123, &[Ok(0x123), Ok(0x80_0000_0123), Ok(0x80_0000_0123)]),
 ];
 
 /// The doublewords of process 0: its entry, with a root at 40000, and that root's first and last entry.
@@ -351,8 +353,9 @@ fn quadrants_have_their_processes(rt: HostRuntime) -> Result<(), Fail> {
     lay(&mut ram, &PROCESS_0);
     for Quadrant(msr, pidr, ea, want) in &QUADRANTS {
         let regs = regs_with(*msr, 0x1_0000, *pidr);
-        assert!(rt;
-            found_by_kinds(&ram, &regs, *ea) == *want,
+        assert_eq!(rt;
+            found_by_kinds(&ram, &regs, *ea).as_slice(),
+            *want,
             "{ea:x} of process {pidr} under {msr:x}"
         );
     }
