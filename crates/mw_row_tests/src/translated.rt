@@ -1,4 +1,4 @@
-use crate::system::traps_in;
+use crate::left::traps_in;
 use mw_board::{Run, simulate};
 use mw_bus::Ram;
 use mw_isa::{Event, Vector};
