@@ -10,12 +10,8 @@ use Rattle.mw_isa.specs.declared.pages.Page.{Page}
 use Rattle.mw_isa.specs.declared.pages.StorageFault.{StorageFault}
 use Rattle.mw_isa.specs.declared.pages.Stretch.{Stretch}
 use Rattle.mw_isa.specs.declared.pages.Stretches.{Stretches}
-use Rattle.mw_isa.specs.Pages.{page_size, left_of, is_in_page, page_of, one_page, two_pages, real_at, stretch_of, stretches_of, stretches_by, with_second, is_in_ram, IsPagewise}
+use Rattle.mw_isa.specs.Pages.{page_size, left_of, is_in_page, page_of, one_page, two_pages, stretch_of, stretches_of, stretches_by, with_second, is_in_ram, IsPagewise}
 use Rattle.mw_isa.specs.Storage.{is_sized_by, IsSized, first_byte, first_of, kind_of, pages_of, is_aligned, is_exclusive, needs_ram, raises_alignment, IsPlaced}
-
--- without translation the first byte's place in its page is left
-pub real_at-pagewise : IsPagewise real_at
-real_at-pagewise page = (omega arith, omega arith)
 
 -- one page's stretch
 one-stretch : (page : Page) (r : Result ℕ StorageFault) (real : Page → Result ℕ StorageFault) (at : Stretches) → stretches_by real (stretch_of page r) None ≡ Ok at → (x : ℕ) × (r ≡ Ok x) × (at ≡ record { first = record { at = x; len = page.len }; second = None })

@@ -1,5 +1,5 @@
 -- What raises an interrupt, and what doesn't.
-use Rattle.std.proofs.Common.{◌≡◌, ℕ, Bool, true, false, ◌||◌, cond, [], ◌++◌, Option, Some, None, Ok, Err, option_map, slice_get, refl, sym, ap, ap₂, ◌∙◌}
+use Rattle.std.proofs.Common.{◌≡◌, ℕ, Bool, true, false, ◌||◌, cond, [], ◌∷◌, ◌++◌, Option, Some, None, Ok, Err, option_map, slice_get, refl, sym, ap, ap₂, ◌∙◌}
 use Rattle.std.specs.Int.{w64, cast_unsigned}
 use Rattle.mw_decode.specs.declared.insn.Insn.{Insn}
 use Rattle.mw_decode.specs.declared.insn.Decoded.{Decoded}
@@ -19,11 +19,10 @@ use Rattle.mw_isa.specs.declared.pages.Stretches.{Stretches}
 use Rattle.mw_isa.specs.declared.slot.Slot.{Slot}
 use Rattle.mw_isa.specs.Execute.{access_of, can_raise, effect_of, exec_of, is_ever, is_refused, refusal, system_effect, wrapped_sum}
 use Rattle.mw_isa.specs.Operations.{operations}
-use Rattle.mw_isa.specs.Raises.{Placed, access_raises, decoded_raises, misaligned, misaligned_if, outcome_raises, untried}
-use Rattle.mw_isa.specs.Pages.{touches_of}
+use Rattle.mw_isa.specs.Raises.{Placed, access_raises, decoded_raises, first_raised, misaligned, misaligned_if, outcome_raises}
 use Rattle.mw_isa.specs.Places.{places_of}
 use Rattle.mw_isa.specs.Step.{OnPlaced, end_raises}
-use Rattle.mw_isa.specs.Storage.{is_misplaced, is_unaligned_exclusive, pages_of, raises_alignment}
+use Rattle.mw_isa.specs.Storage.{is_misplaced, is_unaligned_exclusive, raises_alignment}
 use Rattle.mw_isa.specs.Reads.{Agree}
 use Rattle.mw_isa.specs.Special.{slots_in}
 use Rattle.mw_isa.specs.Words.{alignment_sources, words_reads}
@@ -95,13 +94,13 @@ words-agree (Alignment ra rb disp) view other agree =
 words-agree Illegal view other agree = refl
 
 -- an access that raises nothing raises no alignment interrupt
-calm-by : (early late : Bool) (op : MemOp) (at : Stretches) → (cond early (untried op) (record { trap = misaligned_if late op; reached = touches_of (pages_of op) })).trap ≡ None → (early || late) ≡ false
-calm-by true late op at e = cc
-calm-by false true op at e = cc
-calm-by false false op at e = refl
+calm-by : (early late : Bool) (op : MemOp) → first_raised (misaligned_if early op ∷ None ∷ misaligned_if late op ∷ []) ≡ None → (early || late) ≡ false
+calm-by true late op e = cc
+calm-by false true op e = cc
+calm-by false false op e = refl
 
-calm-access : (op : MemOp) (at : Stretches) → (access_raises op (Ok at)).trap ≡ None → raises_alignment op at ≡ false
-calm-access op at e = calm-by (is_unaligned_exclusive op) (is_misplaced op at) op at e
+calm-access : (op : MemOp) (at : Stretches) → access_raises op (Ok at) ≡ None → raises_alignment op at ≡ false
+calm-access op at e = calm-by (is_unaligned_exclusive op) (is_misplaced op at) op e
 
 -- an outcome that raises nothing has an access that can be carried out, if it has one
 pub end-calm : (outcome : Outcome) (placed : Option Placed) (msr : ℕ) → end_raises outcome placed msr ≡ None → OnPlaced (λ (op : MemOp) (at : Stretches). raises_alignment op at ≡ false) outcome placed

@@ -1,16 +1,19 @@
 -- What a step is, from its parts.
-use Rattle.std.proofs.Common.{◌≡◌, ℕ, Bool, true, false, not, ◌&&◌, Option, Some, None, Ok, Err, option_map, option_and_then, is_some, if◌then◌else◌, refl, ap, ap₂, ◌∙◌, eq-eqb, cond}
+use Rattle.std.proofs.Common.{◌≡◌, ℕ, ◌+◌, Bool, true, false, not, ◌&&◌, ◌||◌, List, [], Option, Some, None, Result, Ok, Err, IsTrue, option_map, option_and_then, is_some, refl, ap, ap₂, ◌∙◌, arith, eq-eqb, cond}
+use Rattle.std.specs.Option.{option_map_or}
 use Rattle.mw_decode.specs.declared.insn.Insn.{Insn}
 use Rattle.mw_decode.specs.declared.insn.Decoded.{Decoded}
 use Rattle.mw_decode.specs.declared.insn.Decoded.TheVariants.{Insn as Is, Unavailable, Alignment, Illegal}
-use Rattle.mw_isa.specs.declared.event.Event.TheVariants.{Retire, Trap as Trapped, Irq}
+use Rattle.mw_isa.specs.declared.event.Event.TheVariants.{Irq}
 use Rattle.mw_isa.specs.declared.fetched.Fetched.{Fetched}
 use Rattle.mw_isa.specs.declared.memory.MemOp.{MemOp}
 use Rattle.mw_isa.specs.declared.memory.MemWhat.{MemWhat}
 use Rattle.mw_isa.specs.declared.memory.MemWhat.TheVariants.{Load, Store, Conditional, Zero, Clean, Icbi}
 use Rattle.mw_isa.specs.declared.outcome.Outcome.{Outcome}
 use Rattle.mw_isa.specs.declared.outcome.Outcome.TheVariants.{Done, Long, Memory, System, Trap}
+use Rattle.mw_isa.specs.declared.access.Kind.TheVariants.{Fetch}
 use Rattle.mw_isa.specs.declared.pages.Stretches.{Stretches}
+use Rattle.mw_isa.specs.declared.pages.StorageFault.{StorageFault}
 use Rattle.mw_isa.specs.declared.raised.Raised.{Raised}
 use Rattle.mw_isa.specs.declared.numbered.Numbered.{Numbered}
 use Rattle.mw_isa.specs.declared.numbered.Numbered.TheVariants.{Xer, Lr, Ctr, Dsisr, Dar, Dec, Srr0, Srr1, Pidr, Sprg, TimeBase, TimeBaseUpper, TimeBaseHalf, Pvr, Hsprg, Hsrr0, Hsrr1, Prtbl, Tar, Pir}
@@ -20,16 +23,18 @@ use Rattle.mw_isa.specs.declared.system.SysOp.{SysOp}
 use Rattle.mw_isa.specs.declared.system.SysOp.TheVariants.{ReadSpr, WriteSpr, WriteMsr, Return, Tlbie, Sync, Isync}
 use Rattle.mw_isa.specs.Sprs.{devices_with, held, is_problem, refusal_of, register_for, result_unless, with_content, write_of}
 use Rattle.mw_isa.specs.System.{held_or, system_done}
-use Rattle.mw_isa.specs.Raises.{Placed, cut_raised, decoded_raises, earlier, fetch_raises, words_raise}
+use Rattle.mw_isa.specs.Faults.{fault_raises}
+use Rattle.mw_isa.specs.Raises.{Placed, cut_raised, cut_raises, decoded_raises, earlier, fetch_raises, first_raised, words_raise}
 use Rattle.mw_isa.specs.Vectors.{address_of}
 use Rattle.mw_isa.specs.Words.{insn_in, insn_of, decoded_of}
 use Rattle.mw_isa.specs.declared.regs.Regs.{Regs}
 use Rattle.mw_isa.specs.declared.vector.Vector.{Vector}
 use Rattle.mw_isa.specs.State.{State}
 use Rattle.mw_isa.specs.Choose.{chosen, interrupted}
-use Rattle.mw_isa.specs.Unbuilt.{passed, passed_by}
+use Rattle.mw_isa.specs.Cycle.{event_at, event_by, event_of, passed, passed_by}
+use Rattle.mw_isa.specs.Prompt.{irq_of, is_prompt}
 use Rattle.mw_isa.specs.Pages.{is_in_ram}
-use Rattle.mw_isa.specs.Fetch.{fetch_at, fetched, is_cut, word_of, suffix_of}
+use Rattle.mw_isa.specs.Fetch.{fetch_at, fetched, fetched_by, is_cut, word_of, suffix_of}
 use Rattle.mw_isa.specs.Slots.{get_slot}
 use Rattle.mw_isa.specs.Translate.{page_real}
 use Rattle.mw_isa.specs.Reads.{operands_of}
@@ -38,14 +43,14 @@ use Rattle.mw_soc.specs.DeviceData.{DeviceData}
 use Rattle.mw_soc.specs.Devices.{cycle_of}
 use Rattle.mw_soc.proofs.Laws.{cycle-device_load, cycle-device_store}
 use Rattle.mw_isa.specs.Storage.{accessed, is_reserved, stores, devices_loaded, devices_stored}
-use Rattle.mw_isa.specs.Step.{IsKnown, UnderWay, step, under_way, outcome_of, placed_of, written, state_behind, after_of, raises_of, regs_raised, end_raises, marked, builds, builds_by, is_built_outcome}
-use Rattle.mw_isa.specs.Replay.{acted, chooses, raises, retires, same_suffix}
+use Rattle.mw_isa.specs.Step.{IsKnown, UnderWay, step, under_way, outcome_of, placed_of, written, state_behind, after_of, raises_of, regs_raised, outcome_parts, end_raises, marked}
+use Rattle.mw_isa.specs.Replay.{acted, chooses, cycle_of_event, raises, retires, same_suffix}
 
 -- what an instruction carries that comes to an outcome
 abbrev pub known : Fetched → Insn → Outcome → State → UnderWay
 known words insn outcome state = record {
   cia = state.regs.cia;
-  real = fetch_at state.regs.cia;
+  real = fetch_at state.ram state.regs;
   words = Some words;
   insn = Some insn;
   outcome = Some outcome;
@@ -61,7 +66,7 @@ outcome_of-known insn outcome state e = e
 carried : Option Fetched → Option Insn → Option Outcome → State → UnderWay
 carried words insn outcome state = record {
   cia = state.regs.cia;
-  real = fetch_at state.regs.cia;
+  real = fetch_at state.ram state.regs;
   words = words;
   insn = insn;
   outcome = outcome;
@@ -75,18 +80,6 @@ under_way-known words insn outcome state k =
     ap (λ (w : Option Fetched). carried w (option_and_then insn_of w) (outcome_of (option_and_then insn_of w) state.regs.cia state.regs) state) k.words_are
     ∙ ap (λ (i : Option Insn). carried (Some words) i (outcome_of i state.regs.cia state.regs) state) k.insn_is
     ∙ ap (λ (o : Option Outcome). carried (Some words) (Some insn) o state) (outcome_of-known insn outcome state k.outcome_is)
-
--- whether the next instruction is built, once it is known what it comes to
-pub builds-known : (words : Fetched) (insn : Insn) (outcome : Outcome) (state : State) → IsKnown words insn outcome state → builds state ≡ is_built_outcome outcome state.regs
-unfolding builds
-builds-known words insn outcome state k = ap (λ (it : UnderWay). builds_by it state.regs) (under_way-known words insn outcome state k)
-
--- words that are no instruction are built: they raise an interrupt
-pub builds-none : (words : Fetched) (state : State) → fetched state ≡ Some words → insn_of words ≡ None → builds state ≡ true
-unfolding builds under_way carried outcome_of
-builds-none words state w none =
-    ap (λ (o : Option Fetched). builds_by (carried o (option_and_then insn_of o) (outcome_of (option_and_then insn_of o) state.regs.cia state.regs) state) state.regs) w
-    ∙ ap (λ (i : Option Insn). builds_by (carried (Some words) i (outcome_of i state.regs.cia state.regs) state) state.regs) none
 
 -- words that are cut off are no instruction
 pub insn_of-cut : (words : Fetched) → is_cut words ≡ true → insn_of words ≡ None
@@ -108,35 +101,61 @@ is-by false Illegal insn e = cc
 
 -- what words and what they come to raise, by the words' own part
 chain_of : Fetched → Option Raised → Option Raised → Option Raised
-chain_of words by_words by_outcome = option_map (marked (Some words)) (earlier (if is_cut words then Some cut_raised else None) (earlier by_words by_outcome))
+chain_of words by_words by_outcome = option_map (marked (Some words)) (earlier (cut_raises words) (earlier by_words by_outcome))
+
+-- what an instruction raises by what its words come to
+by_outcome : UnderWay → State → Option Raised
+by_outcome it state = first_raised (option_map_or (λ outcome. outcome_parts outcome it.placed state.regs.msr) it.outcome [])
+
+-- what an instruction raises, by its fetch, its words, and what they come to
+chain_by : Option Raised → Option Fetched → State → Option Raised
+chain_by by_fetch words state = option_map (marked words) (earlier by_fetch (earlier (option_and_then cut_raises words) (earlier (option_and_then (λ there. words_raise there (get_slot state.regs)) words) (by_outcome (under_way state) state))))
+
+-- a fetch that gives words raises nothing
+calm-fetch : (ram : List ℕ) (fetch : Result ℕ StorageFault) (at : ℕ) (words : Fetched) → fetched_by ram fetch ≡ Some words → fetch_raises fetch at ≡ None
+calm-fetch ram (Ok real) at words e = refl
+calm-fetch ram (Err fault) at words e = cc
 
 -- what is raised behind words that were fetched
-trap-chain : (words : Fetched) (state : State) → fetched state ≡ Some words → (step state).trap ≡ chain_of words (words_raise words (get_slot state.regs)) (option_and_then (λ (o : Outcome). end_raises o (under_way state).placed state.regs.msr) (under_way state).outcome)
-unfolding step under_way chain_of
+trap-chain : (words : Fetched) (state : State) → fetched state ≡ Some words → (step state).trap ≡ chain_of words (words_raise words (get_slot state.regs)) (by_outcome (under_way state) state)
+unfolding step under_way chain_of by_outcome chain_by
 trap-chain words state w =
-    ap (λ (o : Option Fetched). option_map (marked o) (earlier (fetch_raises (fetch_at state.regs.cia) o) (earlier (option_and_then (λ (x : Fetched). words_raise x (get_slot state.regs)) o) (option_and_then (λ (x : Outcome). end_raises x (under_way state).placed state.regs.msr) (under_way state).outcome)))) w
+    ap₂ (λ (by_fetch : Option Raised) (o : Option Fetched). chain_by by_fetch o state) (calm-fetch state.ram (fetch_at state.ram state.regs) state.regs.cia words w) w
 
--- a step whose words are cut off traps by its fetch
-pub trapped-fetch : (words : Fetched) (state : State) → fetched state ≡ Some words → is_cut words ≡ true → (step state).trap ≡ Some (marked (Some words) cut_raised)
+-- the mark of a fetch that failed is none
+marked-none : (raised : Raised) → marked None raised ≡ raised
+marked-none raised =
+    let same : raised.cause + 0 ≡ raised.cause = omega arith in
+    ap (λ (cause : ℕ). record raised { cause = cause }) same
+
+-- a step whose fetch fails traps by that
+pub trapped-fault : (fault : StorageFault) (state : State) → fetch_at state.ram state.regs ≡ Err fault → (step state).trap ≡ Some (fault_raises fault Fetch state.regs.cia)
+unfolding step under_way chain_by outcome_of by_outcome
+trapped-fault fault state e =
+    ap (λ (fetch : Result ℕ StorageFault). chain_by (fetch_raises fetch state.regs.cia) (fetched_by state.ram fetch) state) e
+    ∙ ap Some (marked-none (fault_raises fault Fetch state.regs.cia))
+
+-- a step whose words are cut off traps by that
+pub trapped-cut : (words : Fetched) (state : State) → fetched state ≡ Some words → is_cut words ≡ true → (step state).trap ≡ Some (marked (Some words) cut_raised)
 unfolding chain_of
-trapped-fetch words state w cut =
+trapped-cut words state w cut =
     trap-chain words state w
-    ∙ ap (λ (b : Bool). option_map (marked (Some words)) (earlier (cond b (Some cut_raised) None) (earlier (words_raise words (get_slot state.regs)) (option_and_then (λ (o : Outcome). end_raises o (under_way state).placed state.regs.msr) (under_way state).outcome)))) cut
+    ∙ ap (λ (b : Bool). option_map (marked (Some words)) (earlier (cond b (Some cut_raised) None) (earlier (words_raise words (get_slot state.regs)) (by_outcome (under_way state) state)))) cut
 
 -- a step whose words raise an interrupt traps by its words
 pub trapped-words : (words : Fetched) (raised : Raised) (state : State) → fetched state ≡ Some words → is_cut words ≡ false → words_raise words (get_slot state.regs) ≡ Some raised → (step state).trap ≡ Some (marked (Some words) raised)
 unfolding chain_of
 trapped-words words raised state w whole raises =
     trap-chain words state w
-    ∙ ap₂ (λ (b : Bool) (r : Option Raised). option_map (marked (Some words)) (earlier (cond b (Some cut_raised) None) (earlier r (option_and_then (λ (o : Outcome). end_raises o (under_way state).placed state.regs.msr) (under_way state).outcome)))) whole raises
+    ∙ ap₂ (λ (b : Bool) (r : Option Raised). option_map (marked (Some words)) (earlier (cond b (Some cut_raised) None) (earlier r (by_outcome (under_way state) state)))) whole raises
 
 -- a step that comes to an outcome traps by that, or doesn't trap
 pub trap-known : (words : Fetched) (insn : Insn) (outcome : Outcome) (state : State) → IsKnown words insn outcome state → (step state).trap ≡ option_map (marked (Some words)) (end_raises outcome (placed_of (page_real state.ram state.regs) outcome) state.regs.msr)
-unfolding chain_of
+unfolding chain_of by_outcome
 trap-known words insn outcome state k =
     let is = is-by (is_cut words) (decoded_of words) insn k.insn_is in
     trap-chain words state k.words_are
-    ∙ ap (λ (it : UnderWay). chain_of words (words_raise words (get_slot state.regs)) (option_and_then (λ (o : Outcome). end_raises o it.placed state.regs.msr) it.outcome)) (under_way-known words insn outcome state k)
+    ∙ ap (λ (it : UnderWay). chain_of words (words_raise words (get_slot state.regs)) (by_outcome it state)) (under_way-known words insn outcome state k)
     ∙ ap₂ (λ (b : Bool) (d : Decoded). option_map (marked (Some words)) (earlier (cond b (Some cut_raised) None) (earlier (decoded_raises d (get_slot state.regs)) (end_raises outcome (placed_of (page_real state.ram state.regs) outcome) state.regs.msr)))) is.0 is.1
 
 -- a step that traps takes its interrupt, and changes nothing else
@@ -146,7 +165,7 @@ after-trapped raised state e = ap (λ (trap : Option Raised). after_of trap (und
 
 -- a step that doesn't trap leaves what its outcome leaves
 pub after-known : (words : Fetched) (insn : Insn) (outcome : Outcome) (state : State) → IsKnown words insn outcome state → (step state).trap ≡ None → (step state).after ≡ state_behind (Some insn) (Some outcome) (placed_of (page_real state.ram state.regs) outcome) state.regs.cia state
-unfolding step
+unfolding step under_way
 after-known words insn outcome state k calm =
     ap (λ (trap : Option Raised). after_of trap (under_way state) state) calm
     ∙ ap (λ (it : UnderWay). after_of None it state) (under_way-known words insn outcome state k)
@@ -160,25 +179,21 @@ same_suffix-refl (Some x) = eq-eqb x x refl
 both : {a b : Bool} → a ≡ true → b ≡ true → (a && b) ≡ true
 both p q = ap₂ (λ (x : Bool) (y : Bool). x && y) p q
 
--- an instruction that is built and raises nothing retires, by the words that it is made of
-retires-built : (state : State) → builds state ≡ true → (step state).trap ≡ None → retires state state.regs.cia (word_of (fetched state)) (suffix_of (fetched state)) ≡ true
+-- an instruction that raises nothing retires, by the words that it is made of
+retires-calm : (state : State) → (step state).trap ≡ None → retires state state.regs.cia (word_of (fetched state)) (suffix_of (fetched state)) ≡ true
 unfolding step under_way
-retires-built state b calm =
-    both b (both (ap (λ (trap : Option Raised). not (is_some trap)) calm) (both (eq-eqb state.regs.cia state.regs.cia refl) (both (eq-eqb (word_of (fetched state)) (word_of (fetched state)) refl) (same_suffix-refl (suffix_of (fetched state))))))
+retires-calm state calm =
+    both (ap (λ (trap : Option Raised). not (is_some trap)) calm) (both (eq-eqb state.regs.cia state.regs.cia refl) (both (eq-eqb (word_of (fetched state)) (word_of (fetched state)) refl) (same_suffix-refl (suffix_of (fetched state)))))
 
--- an instruction that retires leaves what its step leaves
-pub acted-retired : (cycle : ℕ) (state : State) → builds state ≡ true → (step state).trap ≡ None → acted (Retire cycle state.regs.cia (word_of (fetched state)) (suffix_of (fetched state))) state ≡ Some (step state).after
+-- what the next instruction leaves is what its event makes of the state, whether it raises an interrupt
+acted-at : (trap : Option Raised) (state : State) → (step state).trap ≡ trap → acted (event_at trap state) state ≡ Some (step state).after
 unfolding acted
-acted-retired cycle state b calm = ap (λ (c : Bool). cond c (Some (step state).after) None) (retires-built state b calm)
-
--- an instruction that raises an interrupt traps to its vector
-pub acted-trapped : (cycle : ℕ) (raised : Raised) (state : State) → builds state ≡ true → (step state).trap ≡ Some raised → acted (Trapped cycle state.regs.cia raised.vector) state ≡ Some (step state).after
-unfolding acted
-acted-trapped cycle raised state b e =
-    ap (λ (c : Bool). cond c (Some (step state).after) None) (both b (both (eq-eqb state.regs.cia state.regs.cia refl) (ap (λ (trap : Option Raised). raises trap raised.vector) e ∙ eq-eqb (address_of raised.vector) (address_of raised.vector) refl)))
+acted-at None state is = ap (λ (c : Bool). cond c (Some (step state).after) None) (retires-calm state is)
+acted-at (Some raised) state is =
+    ap (λ (c : Bool). cond c (Some (step state).after) None) (both (eq-eqb state.regs.cia state.regs.cia refl) (ap (λ (trap : Option Raised). raises trap raised.vector) is ∙ eq-eqb (address_of raised.vector) (address_of raised.vector) refl))
 
 -- the interrupt that is chosen is taken, at the next instruction's address
-pub acted-interrupted : (cycle : ℕ) (vector : Vector) (state : State) → chosen state ≡ Some vector → acted (Irq cycle state.regs.cia vector) state ≡ Some (interrupted vector state)
+acted-interrupted : (cycle : ℕ) (vector : Vector) (state : State) → chosen state ≡ Some vector → acted (Irq cycle state.regs.cia vector) state ≡ Some (interrupted vector state)
 unfolding acted
 acted-interrupted cycle vector state e =
     ap (λ (c : Bool). cond c (Some (interrupted vector state)) None) (both (eq-eqb state.regs.cia state.regs.cia refl) (ap (λ (choice : Option Vector). chooses choice vector) e ∙ eq-eqb (address_of vector) (address_of vector) refl))
@@ -268,7 +283,7 @@ after_of-cycle None it state = behind-cycle it.insn it.outcome it.placed it.cia 
 
 -- a step leaves the devices' cycle
 pub step-cycle : (state : State) → cycle_of (step state).after.devices ≡ cycle_of state.devices
-unfolding step
+unfolding step under_way
 step-cycle state = after_of-cycle (raises_of (under_way state) (get_slot state.regs) state.regs.msr) (under_way state) state
 
 -- a cycle leaves the devices at theirs, whatever is chosen
@@ -279,3 +294,39 @@ passed_by-cycle (Some vector) state = refl
 -- a cycle leaves the devices at their cycle
 pub passed-cycle : (state : State) → cycle_of (passed state).devices ≡ cycle_of state.devices
 passed-cycle state = passed_by-cycle (chosen state) state
+
+-- where no interrupt is chosen, whatever happens is prompt
+prompt-calm : (takes : Bool) → IsTrue (takes || true)
+prompt-calm true = refl
+prompt-calm false = refl
+
+-- each cycle has an event, which makes of the state what the cycle does, whatever is chosen
+acts-by : (choice : Option Vector) (state : State) → chosen state ≡ choice → acted (event_by choice state) state ≡ Some (passed_by choice state)
+acts-by None state e = acted-at (step state).trap state refl
+acts-by (Some vector) state e = acted-interrupted (cycle_of state.devices) vector state e
+
+-- each cycle has an event, which makes of the state what the cycle does
+pub cycle-acts : (state : State) → acted (event_of state) state ≡ Some (passed state)
+cycle-acts state = acts-by (chosen state) state refl
+
+-- that event has the devices' cycle, whatever is chosen
+event_at-cycle : (trap : Option Raised) (state : State) → cycle_of_event (event_at trap state) ≡ cycle_of state.devices
+event_at-cycle None state = refl
+event_at-cycle (Some raised) state = refl
+
+event_by-cycle : (choice : Option Vector) (state : State) → cycle_of_event (event_by choice state) ≡ cycle_of state.devices
+event_by-cycle None state = event_at-cycle (step state).trap state
+event_by-cycle (Some vector) state = refl
+
+-- that event has the devices' cycle
+pub event_of-cycle : (state : State) → cycle_of_event (event_of state) ≡ cycle_of state.devices
+event_of-cycle state = event_by-cycle (chosen state) state
+
+-- that event leaves no interrupt waiting, whatever is chosen
+prompt-by : (choice : Option Vector) (state : State) → IsTrue (is_some (irq_of (event_by choice state)) || not (is_some choice))
+prompt-by None state = prompt-calm (is_some (irq_of (event_by None state)))
+prompt-by (Some vector) state = refl
+
+-- that event leaves no interrupt waiting
+pub cycle-prompt : (state : State) → IsTrue (is_prompt (event_of state) state)
+cycle-prompt state = prompt-by (chosen state) state

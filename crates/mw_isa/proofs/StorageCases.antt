@@ -9,7 +9,7 @@ use Rattle.mw_isa.specs.declared.pages.Page.{Page}
 use Rattle.mw_isa.specs.declared.pages.StorageFault.{StorageFault}
 use Rattle.mw_isa.specs.declared.pages.StorageFault.TheVariants.{NoTranslation}
 use Rattle.mw_isa.specs.declared.pages.Stretches.{Stretches}
-use Rattle.mw_isa.specs.Pages.{touches_of, real_at, stretches_of}
+use Rattle.mw_isa.specs.Pages.{touches_of, real_of, stretches_of}
 use Rattle.mw_isa.specs.Storage.{pages_of, store_deed, block_of}
 
 -- an operation at an address
@@ -36,9 +36,13 @@ zeros = refl
 two : ℕ → ℕ → ℕ → ℕ → Stretches
 two at len other rest = record { first = record { at = at; len = len }; second = Some (record { at = other; len = rest }) }
 
+-- a page stands where its effective address says
+as_it_is : Page → Result ℕ StorageFault
+as_it_is page = Ok (real_of page.ea)
+
 -- without translation the stretches of two pages stand side by side
-placed : stretches_of real_at (pages_of (op_at (Store false) 0x1FFD 8)) ≡ Ok (two 0x1FFD 3 0x2000 5)
-unfolding two
+placed : stretches_of as_it_is (pages_of (op_at (Store false) 0x1FFD 8)) ≡ Ok (two 0x1FFD 3 0x2000 5)
+unfolding two as_it_is
 placed = refl
 
 -- a page at 0x2000 stands at 0x5000, any other where it is

@@ -7,8 +7,10 @@ use Rattle.mw_isa.specs.declared.access.Kind.TheVariants.{Fetch}
 use Rattle.mw_isa.specs.declared.fetched.Fetched.{Fetched}
 use Rattle.mw_isa.specs.declared.pages.Page.{Page}
 use Rattle.mw_isa.specs.declared.pages.StorageFault.{StorageFault}
-use Rattle.mw_isa.specs.Pages.{page_of, real_at}
+use Rattle.mw_isa.specs.declared.regs.Regs.{Regs}
+use Rattle.mw_isa.specs.Pages.{page_of}
 use Rattle.mw_isa.specs.State.{State}
+use Rattle.mw_isa.specs.Translate.{page_real}
 
 -- the address behind the word at an address
 abbrev pub behind : ℕ → ℕ
@@ -18,9 +20,9 @@ behind at = (at + 4) % 2 ^ 64
 abbrev pub word_page : ℕ → Page
 word_page at = page_of Fetch at 4
 
--- the real address of the word at an address, or what is wrong with its page
-abbrev pub fetch_at : ℕ → Result ℕ StorageFault
-fetch_at at = real_at (word_page at)
+-- the real address of the word at the registers' address, by the tables in RAM, or what is wrong with its page
+abbrev pub fetch_at : List ℕ → Regs → Result ℕ StorageFault
+fetch_at ram regs = page_real ram regs (word_page regs.cia)
 
 -- the block of 64 bytes that a word stands in has the word behind it too
 abbrev pub has_room : ℕ → Bool
@@ -41,7 +43,7 @@ fetched_by ram (Err fault) = None
 
 -- what the next instruction is made of, if its fetch succeeds
 abbrev pub fetched : State → Option Fetched
-fetched state = fetched_by state.ram (fetch_at state.regs.cia)
+fetched state = fetched_by state.ram (fetch_at state.ram state.regs)
 
 -- a prefix that ends a block of 64 bytes, and so has no suffix
 abbrev pub is_cut : Fetched → Bool

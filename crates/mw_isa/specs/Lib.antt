@@ -33,7 +33,7 @@ pub mod Take
 pub mod Step
 pub mod Choose
 pub mod Replay
-pub mod Unbuilt
+pub mod Cycle
 pub mod Stops
 pub mod Prompt
 pub mod Lively

@@ -53,10 +53,6 @@ touches_of pages = touch_of pages.first ∷ option_map_or (λ page. touch_of pag
 abbrev pub real_of : ℕ → ℕ
 real_of effective = effective % 2 ^ 60
 
--- the real address of a page's first byte while translation is off, or what is wrong with the page, which nothing is then
-abbrev pub real_at : Page → Result ℕ StorageFault
-real_at page = Ok (real_of page.ea)
-
 -- a page's stretch in real storage, or the page with what is wrong with it
 abbrev pub stretch_of : Page → Result ℕ StorageFault → Result Stretch PageFault
 stretch_of page (Ok at) = Ok (record { at = at; len = page.len })

@@ -1,10 +1,11 @@
 -- What raises an interrupt, part by part in the order of an instruction: its fetch, its words, what it comes to, and its
 -- access (Book III, interrupt definitions; which accesses have to be aligned is this board's own choice).
-use Rattle.std.specs.Prelude.{ℕ, Bool, if◌then◌else◌, List, [], Option, Some, None, Result, Ok, Err}
+use Rattle.std.specs.Prelude.{ℕ, Bool, if◌then◌else◌, List, [], ◌∷◌, Option, Some, None, Result, Ok, Err}
 use Rattle.mw_decode.specs.declared.insn.Facility.{Facility}
 use Rattle.mw_decode.specs.declared.insn.Facility.TheVariants.{Fp, Vector as VectorFacility, Vsx}
 use Rattle.mw_decode.specs.declared.insn.Decoded.{Decoded}
 use Rattle.mw_decode.specs.declared.insn.Decoded.TheVariants.{Insn as Is, Unavailable, Alignment as Misplaced, Illegal}
+use Rattle.mw_isa.specs.declared.access.Kind.TheVariants.{Fetch}
 use Rattle.mw_isa.specs.declared.access.Touch.{Touch}
 use Rattle.mw_isa.specs.declared.fetched.Fetched.{Fetched}
 use Rattle.mw_isa.specs.declared.memory.MemOp.{MemOp}
@@ -37,14 +38,23 @@ abbrev pub earlier : Option Raised → Option Raised → Option Raised
 earlier (Some raised) later = Some raised
 earlier None later = later
 
+-- of interrupts, each of which may be there, the first
+abbrev pub first_raised : List (Option Raised) → Option Raised
+first_raised [] = None
+first_raised (raised ∷ others) = earlier raised (first_raised others)
+
 -- the interrupt of a prefix that ends its block of 64 bytes; DAR stays
 abbrev pub cut_raised : Raised
 cut_raised = raising Alignment (bit_at crossing_place)
 
--- the interrupt that the fetch raises. A fault of its page raises nothing yet
-abbrev pub fetch_raises : Result ℕ StorageFault → Option Fetched → Option Raised
-fetch_raises real None = None
-fetch_raises real (Some words) = if is_cut words then Some cut_raised else None
+-- the interrupt of a fetch at an address, by its real address: that of a fault, or none
+abbrev pub fetch_raises : Result ℕ StorageFault → ℕ → Option Raised
+fetch_raises (Ok real) at = None
+fetch_raises (Err fault) at = Some (fault_raises fault Fetch at)
+
+-- the interrupt of words of which a block's end cuts off the suffix
+abbrev pub cut_raises : Fetched → Option Raised
+cut_raises words = if is_cut words then Some cut_raised else None
 
 -- the vector of a facility that isn't there
 abbrev pub unavailable : Facility → Vector
@@ -75,29 +85,33 @@ outcome_raises (Trap vector cause) = Some (raising vector cause)
 abbrev pub Placed : Type 0
 Placed = Result Stretches PageFault
 
--- how an access fares: the interrupt that it raises, if it does, and its accesses to pages, in order, that it came to
-pub record Fares : Type 0 where
-  pub trap : Option Raised
-  pub reached : List Touch
-
 -- an access raises an alignment interrupt at its address, or none
 abbrev pub misaligned_if : Bool → MemOp → Option Raised
 misaligned_if refused op = if refused then Some (misaligned op.ea) else None
 
--- the interrupt of an access whose pages were translated: that of the first page's fault that there is; or of one that is
--- misplaced in real storage
+-- the interrupt of an exclusive access that isn't aligned
+abbrev pub exclusive_raises : MemOp → Option Raised
+exclusive_raises op = misaligned_if (is_unaligned_exclusive op) op
+
+-- the interrupt of an access's pages: that of the first page with a fault, or none
+abbrev pub pages_raise : Placed → Option Raised
+pages_raise (Ok at) = None
+pages_raise (Err fault) = Some (fault_raises fault.fault fault.page.kind fault.page.ea)
+
+-- the interrupt of an access by where its pages stand in real storage
 abbrev pub place_raises : MemOp → Placed → Option Raised
-place_raises op (Err fault) = Some (fault_raises fault.fault fault.page.kind fault.page.ea)
 place_raises op (Ok at) = misaligned_if (is_misplaced op at) op
+place_raises op (Err fault) = None
 
--- an access that wasn't translated, as an exclusive one isn't aligned
-abbrev pub untried : MemOp → Fares
-untried op = record { trap = Some (misaligned op.ea); reached = [] }
+-- the interrupts that an access may raise where it stands, in their order: before its pages are translated, by these, and by
+-- where they stand
+abbrev pub access_parts : MemOp → Placed → List (Option Raised)
+access_parts op placed = exclusive_raises op ∷ pages_raise placed ∷ place_raises op placed ∷ []
 
--- an access that was translated, all its pages being reached
-abbrev pub tried : MemOp → Placed → Fares
-tried op placed = record { trap = place_raises op placed; reached = touches_of (pages_of op) }
+-- the interrupt that an access raises where it stands
+abbrev pub access_raises : MemOp → Placed → Option Raised
+access_raises op placed = first_raised (access_parts op placed)
 
--- how an access fares where it stands: first whether an exclusive one is aligned, then its pages, then where they are
-abbrev pub access_raises : MemOp → Placed → Fares
-access_raises op placed = if is_unaligned_exclusive op then untried op else tried op placed
+-- the accesses to pages that an access comes to, in order: all, or none where it isn't translated
+abbrev pub reached : MemOp → List Touch
+reached op = if is_unaligned_exclusive op then [] else touches_of (pages_of op)

@@ -8,7 +8,7 @@ use Rattle.mw_isa.specs.State.{State, brought}
 use Rattle.mw_isa.specs.Start.{Boot, start}
 use Rattle.mw_isa.specs.Fetch.{word_of, suffix_of}
 use Rattle.mw_isa.specs.declared.raised.Raised.{Raised}
-use Rattle.mw_isa.specs.Step.{step, builds}
+use Rattle.mw_isa.specs.Step.{step}
 use Rattle.mw_isa.specs.Choose.{chosen, interrupted}
 
 -- the cycle of an event
@@ -33,13 +33,13 @@ abbrev pub raises : Option Raised → Vector → Bool
 raises None vector = false
 raises (Some raised) vector = address_of raised.vector == address_of vector
 
--- an instruction of this address, word and suffix retires there: it is built, and raises no interrupt
+-- an instruction of this address, word and suffix retires there: it raises no interrupt
 abbrev pub retires : State → ℕ → ℕ → Option ℕ → Bool
-retires state cia word suffix = builds state && (not (is_some (step state).trap) && ((state.regs.cia == cia) && ((word_of (step state).carried.words == word) && same_suffix (suffix_of (step state).carried.words) suffix)))
+retires state cia word suffix = not (is_some (step state).trap) && ((state.regs.cia == cia) && ((word_of (step state).carried.words == word) && same_suffix (suffix_of (step state).carried.words) suffix))
 
 -- an instruction of this address traps there to this vector
 abbrev pub traps : State → ℕ → Vector → Bool
-traps state cia vector = builds state && ((state.regs.cia == cia) && raises (step state).trap vector)
+traps state cia vector = (state.regs.cia == cia) && raises (step state).trap vector
 
 -- an interrupt is chosen, and it is this one
 abbrev pub chooses : Option Vector → Vector → Bool

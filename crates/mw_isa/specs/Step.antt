@@ -1,6 +1,7 @@
 -- One instruction, carried out on a state whose devices stand at its cycle (Books I to III): what is known of it before
--- anything changes, the chain of what raises an interrupt, of which the first ends it, and what it leaves.
-use Rattle.std.specs.Prelude.{ℕ, ⊤, ◌≡◌, ◌+◌, Bool, true, false, not, ◌&&◌, if◌then◌else◌, List, [], ◌∷◌, Option, Some, None, is_some, option_map, option_and_then, unwrap_or, Result, Ok, Err}
+-- anything changes, the parts that may raise an interrupt in their order, of which the first that does ends it, and what it
+-- leaves.
+use Rattle.std.specs.Prelude.{ℕ, ⊤, ◌≡◌, ◌+◌, false, if◌then◌else◌, List, [], ◌∷◌, Option, Some, None, option_map, option_and_then, unwrap_or, Result, Ok, Err}
 use Rattle.std.specs.Option.{option_map_or}
 use Rattle.mw_decode.specs.declared.insn.Insn.{Insn}
 use Rattle.mw_decode.specs.Decode.{is_prefix}
@@ -29,10 +30,10 @@ use Rattle.mw_isa.specs.Long.{IsStarted, result_of}
 use Rattle.mw_isa.specs.Execute.{exec_of, behind_insn}
 use Rattle.mw_isa.specs.Finish.{finished}
 use Rattle.mw_isa.specs.Storage.{IsSized, OnMemory, IsPlaced, pages_of, accessed, raises_alignment, deed_by}
-use Rattle.mw_isa.specs.Raises.{Placed, access_raises, earlier, fetch_raises, outcome_raises, words_raise}
+use Rattle.mw_isa.specs.Raises.{Placed, access_parts, cut_raises, fetch_raises, first_raised, outcome_raises, reached, words_raise}
 use Rattle.mw_isa.specs.Take.{taken}
 use Rattle.mw_isa.specs.Msr.{bit_at, prefixed_place}
-use Rattle.mw_isa.specs.System.{system_deed, system_done, system_next, system_raises, system_translates}
+use Rattle.mw_isa.specs.System.{system_deed, system_done, system_next, system_raises}
 use Rattle.mw_isa.specs.Translate.{page_real}
 use Rattle.mw_isa.specs.Words.{insn_of}
 
@@ -72,7 +73,7 @@ placed_of real (System op) = None
 placed_of real (Trap vector cause) = None
 placed_of real (Memory op) = Some (stretches_of real (pages_of op))
 
--- what an instruction at an address carries, from its fetch and its words on
+-- what an instruction at an address carries, from its fetch and its words on, by what tells each page's real address
 abbrev pub under_way_of : Result ℕ StorageFault → Option Fetched → (Page → Result ℕ StorageFault) → ℕ → Regs → UnderWay
 under_way_of fetch words real at regs = record {
   cia = at;
@@ -85,13 +86,19 @@ under_way_of fetch words real at regs = record {
 
 -- what the next instruction carries
 unfoldable pub under_way : State → UnderWay
-under_way state = under_way_of (fetch_at state.regs.cia) (fetched state) (page_real state.ram state.regs) state.regs.cia state.regs
+under_way state = under_way_of (fetch_at state.ram state.regs) (fetched state) (page_real state.ram state.regs) state.regs.cia state.regs
 
--- the interrupt that an outcome raises, by itself, by the number of a register under MSR, or by its access where it stands
+-- the interrupts that an outcome may raise, in their order: by itself or by the number of a register under MSR; and by its
+-- access, before its pages are translated, by these, and by where they stand
+abbrev pub outcome_parts : Outcome → Option Placed → ℕ → List (Option Raised)
+outcome_parts (Memory op) (Some placed) msr = access_parts op placed
+outcome_parts (Memory op) None msr = []
+outcome_parts (System op) placed msr = system_raises op msr ∷ []
+outcome_parts outcome placed msr = outcome_raises outcome ∷ []
+
+-- the interrupt that an outcome raises
 abbrev pub end_raises : Outcome → Option Placed → ℕ → Option Raised
-end_raises (Memory op) placed msr = option_and_then (λ place. (access_raises op place).trap) placed
-end_raises (System op) placed msr = system_raises op msr
-end_raises outcome placed msr = outcome_raises outcome
+end_raises outcome placed msr = first_raised (outcome_parts outcome placed msr)
 
 -- the bit of SRR1 that tells of a prefix, where words were fetched and have one
 abbrev pub prefix_cause : Option Fetched → ℕ
@@ -102,28 +109,18 @@ prefix_cause (Some words) = if is_prefix words.word then bit_at prefixed_place e
 abbrev pub marked : Option Fetched → Raised → Raised
 marked words raised = record raised { cause = raised.cause + prefix_cause words }
 
--- the interrupt that an instruction raises, but for that bit, the registers being seen so: the first of the fetch, of the
--- words, and of what they come to under MSR
-abbrev pub first_raised : UnderWay → (Slot → ℕ) → ℕ → Option Raised
-first_raised it view msr =
-    earlier (fetch_raises it.real it.words) (earlier (option_and_then (λ words. words_raise words view) it.words) (option_and_then (λ outcome. end_raises outcome it.placed msr) it.outcome))
+-- the interrupts that an instruction may raise, but for that bit, in their order, the registers being seen so: by its fetch,
+-- by a suffix that is cut off, by its words, and by what they come to under MSR
+abbrev pub raise_parts : UnderWay → (Slot → ℕ) → ℕ → List (Option Raised)
+raise_parts it view msr =
+    fetch_raises it.real it.cia
+    ∷ option_and_then cut_raises it.words
+    ∷ option_and_then (λ words. words_raise words view) it.words
+    ∷ option_map_or (λ outcome. outcome_parts outcome it.placed msr) it.outcome []
 
--- the interrupt that an instruction raises
+-- the interrupt that an instruction raises: the first
 abbrev pub raises_of : UnderWay → (Slot → ℕ) → ℕ → Option Raised
-raises_of it view msr = option_map (marked it.words) (first_raised it view msr)
-
--- an outcome that is built: it doesn't write MSR so that instruction addresses are translated
-abbrev pub is_built_outcome : Outcome → Regs → Bool
-is_built_outcome (System op) regs = not (system_translates op regs)
-is_built_outcome outcome regs = true
-
--- an instruction that is built: all that isn't stands here, beside the chain
-abbrev pub builds_by : UnderWay → Regs → Bool
-builds_by it regs = is_some it.words && option_map_or (λ outcome. is_built_outcome outcome regs) it.outcome true
-
--- the next instruction is built
-unfoldable pub builds : State → Bool
-builds state = builds_by (under_way state) state.regs
+raises_of it view msr = option_map (marked it.words) (first_raised (raise_parts it view msr))
 
 -- what a long operation makes of the registers
 abbrev pub regs_after : LongOp → Regs → Regs
@@ -174,7 +171,7 @@ after_of None it state = state_behind it.insn it.outcome it.placed it.cia state
 
 -- the accesses to data that an outcome came to, in order
 abbrev pub data_of : Outcome → Option Placed → List Touch
-data_of (Memory op) (Some placed) = (access_raises op placed).reached
+data_of (Memory op) (Some placed) = reached op
 data_of outcome placed = []
 
 -- what an outcome does to changed code, where its access stands
@@ -207,9 +204,13 @@ stepped_by it trap state = record {
 abbrev pub stepped : UnderWay → State → Stepped
 stepped it state = stepped_by it (raises_of it (get_slot state.regs) state.regs.msr) state
 
+-- the instruction at an address, from what its fetch gives and its words
+abbrev pub step_of : Result ℕ StorageFault → Option Fetched → ℕ → State → Stepped
+step_of fetch words at state = stepped (under_way_of fetch words (page_real state.ram state.regs) at state.regs) state
+
 -- the next instruction
 unfoldable pub step : State → Stepped
-step state = stepped (under_way state) state
+step state = step_of (fetch_at state.ram state.regs) (fetched state) state.regs.cia state
 
 -- what is known of the next instruction that comes to an outcome: its words, what they are, and what that comes to
 pub record IsKnown (words : Fetched) (insn : Insn) (outcome : Outcome) (state : State) : Type 0 where

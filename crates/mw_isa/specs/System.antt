@@ -16,7 +16,7 @@ use Rattle.mw_isa.specs.declared.vector.Vector.TheVariants.{Program}
 use Rattle.mw_soc.specs.DeviceData.{DeviceData}
 use Rattle.mw_isa.specs.State.{State}
 use Rattle.mw_isa.specs.Branches.{word_address}
-use Rattle.mw_isa.specs.Msr.{bit_at, illegal_place, ir_place, msr_from, msr_partly_from, pr_place, privileged_place}
+use Rattle.mw_isa.specs.Msr.{bit_at, illegal_place, msr_from, msr_partly_from, pr_place, privileged_place}
 use Rattle.mw_isa.specs.Raises.{raising}
 use Rattle.mw_isa.specs.Slots.{set_slot}
 use Rattle.mw_isa.specs.Sprs.{Held, held, read_of, refusal_of, register_for, write_of}
@@ -38,12 +38,6 @@ abbrev pub msr_behind : SysOp → Regs → ℕ
 msr_behind (WriteMsr value l) regs = if l then msr_partly_from value regs.msr else msr_from value regs.msr
 msr_behind (Return hypervisor) regs = msr_from (if hypervisor then regs.hsrr1 else regs.srr1) regs.msr
 msr_behind op regs = regs.msr
-
--- an instruction of the system writes MSR so that instruction addresses are translated
-abbrev pub system_translates : SysOp → Regs → Bool
-system_translates (WriteMsr value l) regs = has_bit (msr_behind (WriteMsr value l) regs) ir_place
-system_translates (Return hypervisor) regs = has_bit (msr_behind (Return hypervisor) regs) ir_place
-system_translates op regs = false
 
 -- the registers with what was read by number in one; a read that gives nothing leaves it
 abbrev pub regs_reading : ℕ → Result (Option ℕ) SprRefusal → Regs → Regs

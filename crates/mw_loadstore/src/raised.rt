@@ -1,5 +1,5 @@
-ghost use Rattle.std.specs.Prelude.{◌≡◌, ◌≤◌, IfSome};
-ghost use Rattle.mw_isa.specs.Raises.{access_raises, place_raises};
+ghost use Rattle.std.specs.Prelude.{◌≡◌, ◌≤◌, IfSome, [], ◌∷◌};
+ghost use Rattle.mw_isa.specs.Raises.{access_raises, first_raised, pages_raise, place_raises};
 ghost use Rattle.mw_isa.specs.Storage.{IsSized, is_aligned, is_exclusive, is_misplaced, is_unaligned_exclusive, needs_ram};
 ghost use Rattle.mw_isa.specs.Take.{IsUnmarked};
 
@@ -60,11 +60,11 @@ fn is_misplaced(op: &MemOp, at: &Stretches) -> bool
     !is_in_ram(at) && (!is_aligned(op) || needs_ram(op.what))
 }
 
-/// The interrupt of an access whose pages were translated: that of a page's fault, or the alignment interrupt of one
-/// that is misplaced.
-fn place_raises(op: &MemOp, placed: &Result<Stretches, PageFault>) -> Option<Raised>
+/// The interrupt of an access by its pages: that of a page's fault, or else the alignment interrupt of one that is
+/// misplaced.
+fn stands_raise(op: &MemOp, placed: &Result<Stretches, PageFault>) -> Option<Raised>
     requires { 1 ≤ op.now.len }
-    ensures value { result ≡ place_raises op.now placed.now }
+    ensures value { result ≡ first_raised (pages_raise placed.now ∷ place_raises op.now placed.now ∷ []) }
     ensures cause { IfSome result (λ raised. IsUnmarked raised.cause) }
 {
     match placed {
@@ -84,12 +84,12 @@ fn place_raises(op: &MemOp, placed: &Result<Stretches, PageFault>) -> Option<Rai
 /// (Book III, data storage, data segment and alignment interrupts; which accesses have to be aligned is this board's own choice). It can't fail.
 pub fn access_raises(op: &MemOp, placed: &Result<Stretches, PageFault>) -> Option<Raised>
     requires { IsSized op.now }
-    ensures value { result ≡ (access_raises op.now placed.now).trap }
+    ensures value { result ≡ access_raises op.now placed.now }
     ensures cause { IfSome result (λ raised. IsUnmarked raised.cause) }
 {
     if is_unaligned_exclusive(op) {
         Some(misaligned(op.ea))
     } else {
-        place_raises(op, placed)
+        stands_raise(op, placed)
     }
 }

@@ -2,13 +2,13 @@ ghost use Rattle.std.specs.Prelude.{◌≡◌, IfSome, option_map};
 ghost use Rattle.mw_isa.specs.Msr.{pr_place};
 ghost use Rattle.mw_isa.specs.Sprs.{held, read_of, refusal_of, write_of};
 ghost use Rattle.mw_isa.specs.Xer.{has_bit};
-ghost use Rattle.mw_isa.specs.System.{held_or, msr_behind, refused_by, regs_reading, system_held, system_raises, system_translates};
+ghost use Rattle.mw_isa.specs.System.{held_or, msr_behind, refused_by, regs_reading, system_held, system_raises};
 ghost use Rattle.mw_isa.specs.Take.{IsUnmarked};
 
 use crate::moving::{read, write};
 use crate::numbers::refusal_of;
 use mw_isa::{
-    ILLEGAL, IR, PR, PRIVILEGED, Raised, Regs, Slot, SprRefusal, SysOp, Use, Vector, bit_at,
+    ILLEGAL, PR, PRIVILEGED, Raised, Regs, Slot, SprRefusal, SysOp, Use, Vector, bit_at,
     has_bit, msr_from, msr_partly_from, raising, set_slot,
 };
 use mw_soc::Devices;
@@ -72,21 +72,6 @@ fn msr_behind(op: &SysOp, regs: &Regs) -> u64
         SysOp::Tlbie { .. } => regs.msr,
         SysOp::Sync { .. } => regs.msr,
         SysOp::Isync => regs.msr,
-    }
-}
-
-/// Whether an instruction of the system writes MSR so that instruction addresses are translated. It can't fail.
-pub fn system_translates(op: &SysOp, regs: &Regs) -> bool
-    ensures { result ≡ system_translates op.now regs.now }
-{
-    match op {
-        SysOp::WriteMsr { .. } => has_bit(msr_behind(op, regs), IR),
-        SysOp::Return { .. } => has_bit(msr_behind(op, regs), IR),
-        SysOp::ReadSpr { .. } => false,
-        SysOp::WriteSpr { .. } => false,
-        SysOp::Tlbie { .. } => false,
-        SysOp::Sync { .. } => false,
-        SysOp::Isync => false,
     }
 }
 

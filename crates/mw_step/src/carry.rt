@@ -1,9 +1,10 @@
 ghost use Rattle.std.specs.Prelude.{◌≡◌, ◌<◌, Some};
 ghost use Rattle.mw_tables.specs.Rows.{row_count};
+ghost use Rattle.mw_isa.specs.Cycle.{event_at};
 ghost use Rattle.mw_isa.specs.State.{seen};
 ghost use Rattle.mw_isa.specs.Step.{CanFinish, regs_raised, saved_by, state_behind, step, written};
 ghost use Rattle.mw_isa.specs.Take.{IsCause};
-ghost use Rattle.mw_step.specs.Prepared.{IsPrepared, event_at};
+ghost use Rattle.mw_step.specs.Prepared.{IsPrepared};
 
 use crate::long::finish_long;
 use crate::prepared::Prepared;

@@ -1,10 +1,27 @@
-ghost use Rattle.std.specs.Prelude.{◌≡◌, ◌<◌, ◌^◌, IfSome, false, is_some};
+ghost use Rattle.std.specs.Prelude.{◌≡◌, ◌<◌, ◌^◌, IfOk, false, is_some};
 ghost use Rattle.mw_decode.specs.Decode.{is_prefix};
-ghost use Rattle.mw_isa.specs.Fetch.{fetch_at, fetched_at, fetched_by, has_room, is_cut, suffix_at};
+ghost use Rattle.mw_isa.specs.Fetch.{fetch_at, fetched_at, has_room, is_cut, suffix_at};
 
+use crate::place::page_real;
 use mw_bus::Ram;
 use mw_decode::is_prefix;
-use mw_isa::{Fetched, fetch_at};
+use mw_isa::{Fetched, Kind, Page, Regs, StorageFault};
+
+/// The real address of the word at the registers' address, by the tables in RAM, or what is wrong with its page.
+pub fn fetch_at(ram: &Ram, regs: &Regs) -> Result<u64, StorageFault>
+    ensures value { result ≡ fetch_at ram.now regs.now }
+    ensures bound { IfOk result (λ at. at < 2 ^ 60) }
+{
+    page_real(
+        ram,
+        regs,
+        &Page {
+            kind: Kind::Fetch,
+            ea: regs.cia,
+            len: 4,
+        },
+    )
+}
 
 /// Whether the block of 64 bytes that a word stands in has the word behind it too.
 fn has_room(real: u64) -> bool
@@ -27,7 +44,7 @@ fn suffix_at(ram: &Ram, real: u64, word: u32) -> Option<u32>
 
 /// What is fetched at a real address.
 #[tactic(auto, unfolding(mw_isa::specs::Fetch::fetched_at))]
-fn fetched_at(ram: &Ram, real: u64) -> Fetched
+pub fn fetched_at(ram: &Ram, real: u64) -> Fetched
     requires { real < 2 ^ 60 }
     ensures value { result ≡ fetched_at ram.now real }
     ensures whole { is_cut result ≡ false → is_some result.suffix ≡ is_prefix result.word }
@@ -36,16 +53,5 @@ fn fetched_at(ram: &Ram, real: u64) -> Fetched
     Fetched {
         word,
         suffix: suffix_at(ram, real, word),
-    }
-}
-
-/// What is fetched at an effective address; `None` where the fetch fails.
-pub fn fetch(ram: &Ram, cia: u64) -> Option<Fetched>
-    ensures value { result ≡ fetched_by ram.now (fetch_at cia) }
-    ensures whole { IfSome result (λ words. is_cut words ≡ false → is_some words.suffix ≡ is_prefix words.word) }
-{
-    match fetch_at(cia) {
-        Ok(real) => Some(fetched_at(ram, real)),
-        Err(_) => None,
     }
 }

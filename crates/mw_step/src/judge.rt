@@ -1,11 +1,11 @@
 ghost use Rattle.std.specs.Prelude.{◌≡◌, IfSome};
-ghost use Rattle.mw_isa.specs.Step.{OnTrap, end_raises, is_built_outcome};
+ghost use Rattle.mw_isa.specs.Step.{OnTrap, end_raises};
 ghost use Rattle.mw_isa.specs.Storage.{IsSized, OnMemory};
 ghost use Rattle.mw_isa.specs.Take.{IsUnmarked};
 
-use mw_isa::{Outcome, PageFault, Raised, Regs, Stretches, raising};
+use mw_isa::{Outcome, PageFault, Raised, Stretches, raising};
 use mw_loadstore::access_raises;
-use mw_sprs::{system_raises, system_translates};
+use mw_sprs::system_raises;
 
 /// The interrupt that an outcome raises under MSR, if it does: by itself, by the number of a register, or by
 /// its access where it stands.
@@ -28,18 +28,5 @@ pub fn end_raises(
             None => None,
             Some(placed) => access_raises(op, placed),
         },
-    }
-}
-
-/// Whether an outcome is built: it doesn't write MSR so that instruction addresses are translated.
-pub fn is_built_outcome(outcome: &Outcome, regs: &Regs) -> bool
-    ensures { result ≡ is_built_outcome outcome.now regs.now }
-{
-    match outcome {
-        Outcome::Done { .. } => true,
-        Outcome::Long(_) => true,
-        Outcome::Trap { .. } => true,
-        Outcome::System(op) => !system_translates(op, regs),
-        Outcome::Memory(_) => true,
     }
 }

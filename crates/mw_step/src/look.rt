@@ -1,22 +1,25 @@
-ghost use Rattle.std.specs.Prelude.{◌≡◌, IfSome, Some, is_some, option_map};
+ghost use Rattle.std.specs.Prelude.{◌≡◌, false, IfSome, Some, is_some, option_map};
 ghost use Rattle.mw_decode.specs.Decode.{is_prefix};
 ghost use Rattle.mw_decode.specs.Decode.{IsInsn};
-ghost use Rattle.mw_isa.specs.Fetch.{fetched};
+ghost use Rattle.mw_isa.specs.Fetch.{fetched, is_cut};
 ghost use Rattle.mw_isa.specs.Raises.{words_raise};
 ghost use Rattle.mw_isa.specs.Slots.{get_slot};
 ghost use Rattle.mw_isa.specs.State.{seen};
 ghost use Rattle.mw_isa.specs.Step.{marked};
 ghost use Rattle.mw_isa.specs.Take.{IsCause, IsUnmarked};
 ghost use Rattle.mw_isa.specs.Words.{insn_of};
-ghost use Rattle.mw_step.specs.Prepared.{Prepares};
+ghost use Rattle.mw_step.specs.Prepared.{IsPrepared};
 
-use crate::fetch::fetch;
-use crate::judge::{end_raises, is_built_outcome};
+use crate::fetch::{fetch_at, fetched_at};
+use crate::judge::end_raises;
 use crate::place::placed_of;
 use crate::prepared::Prepared;
 use mw_decode::{decode, decode_into};
 use mw_exec::exec_into;
-use mw_isa::{Fetched, Raised, Regs, State, cut_raised, decoded_raises, is_cut, marked, operands};
+use mw_isa::{
+    Fetched, Kind, Raised, Regs, State, cut_raised, decoded_raises, fault_raises, is_cut, marked,
+    operands,
+};
 
 /// The interrupt that words raise which aren't cut off.
 fn words_raise(words: &Fetched, regs: &Regs) -> Option<Raised>
@@ -40,11 +43,11 @@ fn marked_if(words: &Fetched, raised: Option<Raised>) -> Option<Raised>
 }
 
 /// What is known of the instruction that is in `prepared` with its words, written over the rest of it.
-fn prepare_insn(state: &State, prepared: &mut Prepared) -> bool
+fn prepare_insn(state: &State, prepared: &mut Prepared)
     requires words { fetched (seen state.now) ≡ Some prepared.old.words }
     requires is { insn_of prepared.old.words ≡ Some prepared.old.insn }
     requires insn { IsInsn prepared.old.insn }
-    ensures { Prepares prepared.new result (seen state.now) }
+    ensures { IsPrepared prepared.new (seen state.now) }
 {
     let found = operands(&prepared.insn, &state.regs, state.regs.msr);
     exec_into(
@@ -63,27 +66,37 @@ fn prepare_insn(state: &State, prepared: &mut Prepared) -> bool
         &prepared.words,
         end_raises(&prepared.outcome, &prepared.placed, state.regs.msr),
     );
-    is_built_outcome(&prepared.outcome, &state.regs)
 }
 
-/// What is known of the next instruction before anything changes: its words, the interrupt that it raises, if
-/// it does, and if it doesn't, what it is, what it comes to, and where its access stands, written over
-/// `prepared`, whatever that was. `false` exactly where the instruction isn't built (Books I to III):
-/// `prepared` is then of no use but to be written over. It takes no memory.
-pub fn prepare(state: &State, prepared: &mut Prepared) -> bool
-    ensures { Prepares prepared.new result (seen state.now) }
+/// What is known of the instruction whose words are in `prepared`, written over the rest of it.
+fn prepare_words(state: &State, prepared: &mut Prepared)
+    requires words { fetched (seen state.now) ≡ Some prepared.old.words }
+    requires whole { is_cut prepared.old.words ≡ false → is_some prepared.old.words.suffix ≡ is_prefix prepared.old.words.word }
+    ensures { IsPrepared prepared.new (seen state.now) }
 {
-    let Some(words) = fetch(&state.ram, state.regs.cia) else {
-        return false;
-    };
-    prepared.words = words;
+    let words = prepared.words;
     if is_cut(&words) {
         prepared.raised = Some(marked(&words, cut_raised()));
-        return true;
-    }
-    if !decode_into(words.word, words.suffix, &mut prepared.insn) {
+    } else if decode_into(words.word, words.suffix, &mut prepared.insn) {
+        prepare_insn(state, prepared);
+    } else {
         prepared.raised = marked_if(&words, words_raise(&words, &state.regs));
-        return true;
     }
-    prepare_insn(state, prepared)
+}
+
+/// What is known of the next instruction before anything changes: the interrupt that it raises, if it does, and if it
+/// doesn't, its words, what it is, what it comes to, and where its access stands, written over `prepared`, whatever
+/// that was (Books I to III). It can't fail and takes no memory.
+pub fn prepare(state: &State, prepared: &mut Prepared)
+    ensures { IsPrepared prepared.new (seen state.now) }
+{
+    match fetch_at(&state.ram, &state.regs) {
+        Err(fault) => {
+            prepared.raised = Some(fault_raises(fault, Kind::Fetch, state.regs.cia));
+        }
+        Ok(real) => {
+            prepared.words = fetched_at(&state.ram, real);
+            prepare_words(state, prepared);
+        }
+    }
 }

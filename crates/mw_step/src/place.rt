@@ -1,21 +1,22 @@
-ghost use Rattle.std.specs.Prelude.{◌≡◌};
+ghost use Rattle.std.specs.Prelude.{◌≡◌, ◌<◌, ◌^◌, IfOk};
 ghost use Rattle.mw_isa.specs.Pages.{stretch_of, stretches_of};
 ghost use Rattle.mw_isa.specs.Step.{OnPlaced, placed_of};
 ghost use Rattle.mw_isa.specs.Storage.{IsPlaced, IsSized, OnMemory};
 ghost use Rattle.mw_isa.specs.Translate.{page_real};
 
 use mw_bus::Ram;
-use mw_isa::{Outcome, Page, PageFault, Pages, Regs, StorageFault, Stretch, Stretches, real_at};
+use mw_isa::{Outcome, Page, PageFault, Pages, Regs, StorageFault, Stretch, Stretches, real_of};
 use mw_loadstore::pages_of;
 use mw_radix::{RamTables, is_translated, translate};
 
 /// The real address of a page's first byte, or what is wrong with the page.
 #[tactic(auto, unfolding(mw_isa::specs::Translate::translate_of))]
-fn page_real(ram: &Ram, regs: &Regs, page: &Page) -> Result<u64, StorageFault>
-    ensures { result ≡ page_real ram.now regs.now page.now }
+pub fn page_real(ram: &Ram, regs: &Regs, page: &Page) -> Result<u64, StorageFault>
+    ensures value { result ≡ page_real ram.now regs.now page.now }
+    ensures bound { IfOk result (λ at. at < 2 ^ 60) }
 {
     if !is_translated(page.kind, regs.msr) {
-        return real_at(page);
+        return Ok(real_of(page.ea));
     }
     match translate(&mut RamTables::new(ram), regs, page.kind, page.ea) {
         Ok(there) => Ok(there.real),

@@ -8,7 +8,7 @@ use mw_isa::{Fetched, Outcome, PageFault, Raised, Stretches};
 /// What is known of the next instruction before anything changes.
 #[derive(Drop)]
 pub struct Prepared {
-    /// The words that the instruction is made of.
+    /// The words that the instruction is made of; of no use where its fetch fails.
     pub words: Fetched,
     /// The instruction.
     pub insn: Insn,
@@ -16,7 +16,7 @@ pub struct Prepared {
     pub outcome: Outcome,
     /// Where the instruction's access stands, if it has one: its stretches, or the fault of a page.
     pub placed: Option<Result<Stretches, PageFault>>,
-    /// The interrupt that the words raise, if they do; they may then be no instruction and come to nothing.
+    /// The interrupt that the instruction raises, if it does; the rest is then of no use.
     pub raised: Option<Raised>,
 }
 

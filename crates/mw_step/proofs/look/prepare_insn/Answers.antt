@@ -1,10 +1,10 @@
 use Rattle.mw_isa.specs.State.{seen}
-use Rattle.mw_step.proofs.StepLemmas.{looked-prepares}
+use Rattle.mw_step.proofs.StepLemmas.{looked-prepared}
 use Rattle.mw_step.proofs.look.prepare_insn.Goals as goal
 
 pub returns : goal.returns
 returns c =
-    looked-prepares (seen c.args.state.now) (record { words = c.args.prepared.now.words; insn = c.args.prepared.now.insn; outcome = c.exec_into.new.outcome; placed = c.placed_of.new.placed; raised = c.marked_if-prepared.result }) c.operands-found.result c.end_raises.result c.is_built_outcome.result (record {
+    looked-prepared (seen c.args.state.now) (record { words = c.args.prepared.now.words; insn = c.args.prepared.now.insn; outcome = c.exec_into.new.outcome; placed = c.placed_of.new.placed; raised = c.marked_if-prepared.result }) c.operands-found.result c.end_raises.result (record {
       there = c.requires.words;
       insn_is = c.requires.is;
       operands_are = c.operands-found.ensures;
@@ -17,4 +17,4 @@ returns c =
       started = c.exec_into.ensures.started;
       sized = c.exec_into.ensures.sized;
       stands = c.placed_of.ensures.stands;
-    }) c.is_built_outcome.ensures
+    })
