@@ -18,11 +18,4 @@ pub enum RunFault {
     ImageTooLarge,
     /// Memory is wanting.
     NoMemory,
-    /// An instruction that isn't built was reached: one that would set IR of MSR.
-    Unbuilt {
-        /// The cycle at which that instruction is the next one, counted from 0.
-        cycle: u64,
-        /// The effective address of that instruction.
-        cia: u64,
-    },
 }

@@ -1,11 +1,10 @@
-ghost use Rattle.std.specs.Prelude.{◌≡◌, ◌/◌, ◌≤◌, ◌<◌, ◌↔◌, length, OnOk, IfOk, IfErr, None, Err};
+ghost use Rattle.std.specs.Prelude.{◌≡◌, ◌/◌, ◌≤◌, ◌<◌, ◌↔◌, length, IfOk, IfErr, Err};
 ghost use Rattle.std.specs.List.{range_with_len};
 ghost use Rattle.mw_bus.specs.Memory.{ram_size};
 ghost use Rattle.mw_soc.specs.Devices.{cycle_of};
 ghost use Rattle.mw_isa.specs.State.{seen, brought};
 ghost use Rattle.mw_isa.specs.Replay.{cycles_of};
 ghost use Rattle.mw_isa.specs.Runs.{Runs};
-ghost use Rattle.mw_isa.specs.Unbuilt.{first_unbuilt};
 ghost use Rattle.mw_board.specs.Faults.{HasCause};
 
 use crate::run::{Run, RunFault};
@@ -36,14 +35,12 @@ fn stopped(events: Events, mut state: State, n: u64) -> Run
 
 /// Runs an image for `n` cycles, an instruction a cycle, from the machine's start with the image at real
 /// address 0; the bytes of the script arrive at the UART, each at its cycle. `Err` says why there is no run:
-/// the image doesn't fit RAM, an instruction that isn't built is reached below cycle `n`, or memory is
-/// wanting.
+/// `ImageTooLarge` exactly where the image is longer than RAM, and else `NoMemory`, where memory is wanting.
 pub fn simulate(alloc: Global, image: &[u8], script: &Script, n: u64) -> Result<Run, RunFault>
     requires { n ≤ 4000000 }
     ensures runs { IfOk result (λ run. Runs (record { image = image.now; script = script.now }) n run.events run.end (seen run.state)) }
     ensures each_cycle { IfOk result (λ run. cycles_of run.events ≡ range_with_len 0 n) }
-    ensures built { OnOk result (first_unbuilt (record { image = image.now; script = script.now }) n ≡ None) }
-    ensures cause { IfErr result (HasCause (record { image = image.now; script = script.now }) n) }
+    ensures cause { IfErr result (HasCause image.now) }
     ensures too_large { (result ≡ Err RunFault.ImageTooLarge) ↔ (ram_size < length image.now) }
 {
     if image.len() > RAM_SIZE {
@@ -63,12 +60,7 @@ pub fn simulate(alloc: Global, image: &[u8], script: &Script, n: u64) -> Result<
     let mut prepared = Prepared::new();
     for cycle in 0..n {
         state.devices.advance(cycle);
-        let Some(event) = turned(&mut state, &mut prepared) else {
-            return Err(RunFault::Unbuilt {
-                cycle,
-                cia: state.cia(),
-            });
-        };
+        let event = turned(&mut state, &mut prepared);
         let Ok(()) = events.push(event) else {
             return Err(RunFault::NoMemory);
         };

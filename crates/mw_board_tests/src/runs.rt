@@ -51,28 +51,9 @@ fn a_run_has_an_event_a_cycle(rt: HostRuntime) -> Result<(), Fail> {
     Ok(())
 }
 
-/// The words of an image, a number of cycles, and why there is no run.
-struct Refused(&'static [u32], u64, RunFault);
-
-#[rattlefmt::skip]
-static REFUSED: [Refused; 4] = [
-    Refused(&[0x3880_0020, 0x7c80_0164], 2, RunFault::Unbuilt { cycle: 1, cia: 4 }), // li r4,0x20; mtmsrd r4,0
-    Refused(&[0x3880_4000, 0x4800_0008, 0, 0x7c80_0124], 9, RunFault::Unbuilt { cycle: 2, cia: 12 }), // li r4,0x4000; b 12; mtmsr r4,0
-    Refused(&[0x0600_0000, 0x3880_0020, 0x7c80_0164], 3, RunFault::Unbuilt { cycle: 1, cia: 8 }), // paddi r4,0,0x20; mtmsrd r4,0
-    Refused(&[0x3880_0020, 0x7c9b_03a6, 0x4c00_0024], 9, RunFault::Unbuilt { cycle: 2, cia: 8 }), // li r4,0x20; mtspr 27,r4; rfid
-];
-
 #[test]
-fn what_is_not_built_is_refused(rt: HostRuntime) -> Result<(), Fail> {
+fn too_large_an_image_is_refused(rt: HostRuntime) -> Result<(), Fail> {
     let alloc = rt.alloc();
-    for Refused(words, n, want) in &REFUSED {
-        assert!(rt; *n <= 9);
-        let image = image_of(alloc, *words)?;
-        match simulate(alloc, image.as_slice(), &Script::new(alloc), *n) {
-            Ok(_) => panic!(rt; "{words:?} runs"),
-            Err(fault) => assert_eq!(rt; fault, *want, "{words:?}"),
-        }
-    }
     let zeros = vec![in alloc; 0; 16777217]?;
     match simulate(alloc, zeros.as_slice(), &Script::new(alloc), 0) {
         Ok(_) => panic!(rt; "too large an image runs"),

@@ -26,7 +26,6 @@ fn status_of(refusal: Refusal<'_>) -> Status
     match refusal {
         Refusal::Unreadable { .. } => Status::ReadFault,
         Refusal::TooLarge => Status::ImageTooLarge,
-        Refusal::NotBuilt { .. } => Status::Unbuilt,
         Refusal::Bad { .. } => Status::BadInput,
         Refusal::Unwritable => Status::WriteFault,
         Refusal::OutOfMemory => Status::NoMemory,

@@ -8,11 +8,6 @@ pub enum Refusal<'a> {
     },
     /// The image is longer than RAM, 16,777,216 bytes.
     TooLarge,
-    /// The run reaches an instruction that isn't built.
-    NotBuilt {
-        /// The byte address of that instruction.
-        cia: u64,
-    },
     /// The source or the script is refused.
     Bad {
         /// The name of the file of the source or the script.

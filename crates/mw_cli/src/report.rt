@@ -5,7 +5,6 @@ ghost use Rattle.mw_cli.specs.Answers.{usage_line};
 ghost use Rattle.mw_cli.specs.Stages.{line_of};
 
 use crate::refusal::Refusal;
-use mw_digits::hexadecimal;
 use mw_io::{Sink, write_all};
 
 /// Writes a piece, and says whether the sink took it whole.
@@ -111,8 +110,8 @@ fn report_three<S: Sink>(err: &mut S, first: &[u8], second: &[u8], third: &[u8])
     write_three(err, first, second, third);
 }
 
-/// Writes to err the line of a refusal: its cause, with the file's name, the refused place or the instruction's address
-/// where it has one. Where a write fails, err keeps a front of the line.
+/// Writes to err the line of a refusal: its cause, with the file's name and the refused place where it has one. Where a
+/// write fails, err keeps a front of the line.
 pub fn report<S: Sink>(err: &mut S, refusal: Refusal<'_>)
     ensures took { TookUnlessFault (change (S.state err.old) (S.state err.new)) (line_of refusal.entry) }
     ensures faults { (S.state err.old).faults ≤ (S.state err.new).faults }
@@ -126,12 +125,6 @@ pub fn report<S: Sink>(err: &mut S, refusal: Refusal<'_>)
             b"\n",
         ),
         Refusal::TooLarge => write_one(err, b"mw: image exceeds 16777216 bytes\n"),
-        Refusal::NotBuilt { cia } => report_three(
-            err,
-            b"mw: unbuilt at ",
-            &hexadecimal(cia),
-            b"\n",
-        ),
         Refusal::Bad { name, line, column } => report_bad(err, name, line, column),
         Refusal::Unwritable => write_one(err, b"mw: cannot write\n"),
         Refusal::OutOfMemory => write_one(err, b"mw: out of memory\n"),

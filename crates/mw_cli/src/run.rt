@@ -47,7 +47,6 @@ fn text_of_run<'a>(
         Ok(run) => run,
         Err(RunFault::ImageTooLarge) => return Err(Refusal::TooLarge),
         Err(RunFault::NoMemory) => return Err(Refusal::OutOfMemory),
-        Err(RunFault::Unbuilt { cia, .. }) => return Err(Refusal::NotBuilt { cia }),
     };
     match print(alloc, run.events.as_slice(), &run.end, &run.state, dump) {
         Ok(text) => Ok(text),

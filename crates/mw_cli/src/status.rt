@@ -20,12 +20,10 @@ pub enum Status {
     BadInput,
     /// Memory is wanting. Out took nothing, or a front of the text or of the image.
     NoMemory,
-    /// The run reaches an instruction that isn't built. Out took nothing.
-    Unbuilt,
 }
 
 impl Status {
-    /// The number that the process ends with: 0 for `Done`, and 2 to 8 for the others in their order.
+    /// The number that the process ends with: 0 for `Done`, and 2 to 7 for the others in their order.
     pub fn number(self) -> u8
         ensures { result ≡ number_of self }
     {
@@ -37,7 +35,6 @@ impl Status {
             Status::ImageTooLarge => 5,
             Status::BadInput => 6,
             Status::NoMemory => 7,
-            Status::Unbuilt => 8,
         }
     }
 }

@@ -1,4 +1,4 @@
-use crate::shared::{LOOP, OPENING, words_of};
+use crate::shared::{LOOP, words_of};
 use mw_cli::{Status, mw_main};
 use mw_io::{MemHost, RealHost, SureSink};
 use std::test::Fail;
@@ -7,7 +7,7 @@ use std::test::Fail;
 struct Refused(&'static str, &'static [u8], Status, &'static str);
 
 #[rattlefmt::skip]
-static REFUSED: [Refused; 30] = [
+static REFUSED: [Refused; 28] = [
     Refused("", LOOP, Status::Usage, "mw: usage\n"),
     Refused("run", LOOP, Status::Usage, "mw: usage\n"),
     Refused("run img", LOOP, Status::Usage, "mw: usage\n"),
@@ -36,8 +36,6 @@ static REFUSED: [Refused; 30] = [
     Refused("asm absent", b"", Status::ReadFault, "mw: cannot read absent\n"),
     Refused("dis absent", LOOP, Status::ReadFault, "mw: cannot read absent\n"),
     Refused("asm img", b"frob r3\n", Status::BadInput, "mw: img:1:1: bad input\n"),
-    Refused("run img --cycles 5", OPENING, Status::Unbuilt, "mw: unbuilt at 0000000000000004\n"),
-    Refused("run img --cycles 2", OPENING, Status::Unbuilt, "mw: unbuilt at 0000000000000004\n"),
 ];
 
 #[test]
@@ -88,7 +86,6 @@ fn a_status_has_its_number(rt: HostRuntime) {
         (Status::ImageTooLarge, 5),
         (Status::BadInput, 6),
         (Status::NoMemory, 7),
-        (Status::Unbuilt, 8),
     ] {
         assert_eq!(rt; status.number(), number);
     }

@@ -1,4 +1,4 @@
-use crate::shared::{LOOP, OPENING, words_of};
+use crate::shared::{LOOP, words_of};
 use mw_cli::{Status, mw_main};
 use mw_io::{MemHost, RealHost, SureHost, SureSink};
 use std::alloc::{AllocError, Global};
@@ -19,7 +19,7 @@ struct Refused(
 );
 
 #[rattlefmt::skip]
-static REFUSED: [Refused; 17] = [
+static REFUSED: [Refused; 15] = [
     Refused("run img --cycles 3 --script s --dump 0:8", LOOP, GOOD, Status::Usage, "mw: usage\n"),
     Refused("run img --script s --cycles 3", LOOP, GOOD, Status::Usage, "mw: usage\n"),
     Refused("run img --cycles 3 --script s --script s", LOOP, GOOD, Status::Usage, "mw: usage\n"),
@@ -34,8 +34,6 @@ static REFUSED: [Refused; 17] = [
     Refused("run gone --cycles 3 --script absent", LOOP, GOOD, Status::ReadFault, "mw: cannot read gone\n"),
     Refused("run img --cycles 3 --script s", LOOP, b"5 4", Status::BadInput, "mw: s:1:4: bad input\n"),
     Refused("run img --cycles 3 --dump 0:8 --script s", LOOP, FALLING, Status::BadInput, "mw: s:2:1: bad input\n"),
-    Refused("run img --cycles 2 --script s", OPENING, b"5 4", Status::BadInput, "mw: s:1:4: bad input\n"), // before the run
-    Refused("run img --cycles 2 --script s", OPENING, GOOD, Status::Unbuilt, "mw: unbuilt at 0000000000000004\n"),
     Refused("asm img --script s", b"", GOOD, Status::Usage, "mw: usage\n"),
 ];
 

@@ -30,9 +30,7 @@ pub fn lay(state: &mut State, word: u32, suffix: u32, cia: u32) {
 /// Carries out the next instruction; whether it retired.
 pub fn retires(state: &mut State) -> bool {
     let mut prepared = Prepared::new();
-    if !prepare(state, &mut prepared) {
-        return false;
-    }
+    prepare(state, &mut prepared);
     match carry_out(state, &mut prepared) {
         Event::Retire { .. } => true,
         Event::Trap { .. } => false,

@@ -36,7 +36,7 @@ static ROWS: [Row; 19] = [
     Row(&[(0, &[0x7c80_00a6, 0x6084_8000, 0x7c81_0164, 0x3860_0000, 0x7c76_03a6, 0x0600_0000, 0x3860_0005, 0x4800_0000]), (0x900, &[0x4800_0000])], "", 9, &[(5, 0x14, Vector::Decrementer)], 1, &[(3, 0)], &[(Srr0, 0x14), (Srr1, 0x9000_0000_0000_9001), (Traps, 0)]),
     // an illegal word that isn't reached: mfmsr 4; ori 4,4,0x8000; mtmsrd 4,1; li 3,0; mtspr 22,3; .long 0; b .; .org 0x900; b .
     Row(&[(0, &[0x7c80_00a6, 0x6084_8000, 0x7c81_0164, 0x3860_0000, 0x7c76_03a6, 0, 0x4800_0000]), (0x900, &[0x4800_0000])], "", 9, &[(5, 0x14, Vector::Decrementer)], 1, &[], &[(Srr0, 0x14), (Srr1, 0x9000_0000_0000_9001), (Traps, 0)]),
-    // an instruction that isn't built and isn't reached: mfmsr 4; ori 8,4,32; ori 4,4,0x8000; li 3,0; mtspr 22,3; mtmsrd 4,1; mtmsrd 8,0; b .; .org 0x900; b .
+    // an instruction that translates the fetches behind it and isn't reached: mfmsr 4; ori 8,4,32; ori 4,4,0x8000; li 3,0; mtspr 22,3; mtmsrd 4,1; mtmsrd 8,0; b .; .org 0x900; b .
     Row(&[(0, &[0x7c80_00a6, 0x6088_0020, 0x6084_8000, 0x3860_0000, 0x7c76_03a6, 0x7c81_0164, 0x7d00_0164, 0x4800_0000]), (0x900, &[0x4800_0000])], "", 12, &[(6, 0x18, Vector::Decrementer)], 1, &[], &[(Srr0, 0x18), (Cia, 0x900)]),
     // EE is 0: li 3,-1; mtspr 22,3; b .; .org 0x900; b .
     Row(&[(0, &[0x3860_ffff, 0x7c76_03a6, 0x4800_0000]), (0x900, &[0x4800_0000])], "", 9, &[], 0, &[], &[(Cia, 8), (Msr, 0x9000_0000_0000_1001)]),

@@ -1,6 +1,6 @@
 use crate::left::Name::{Cia, Dec, Msr, Sprg3, Srr0, Srr1, Traps, Xer};
 use crate::left::{Name, leaves};
-use mw_board::{RunFault, simulate};
+use mw_board::simulate;
 use mw_uart::Script;
 use std::alloc::{AllocError as NoMemory, Global};
 use std::test::Fail;
@@ -46,17 +46,6 @@ static ROWS: [Row; 14] = [
     Row(&[(0, &[0x38c0_0001, 0x78c6_f806, 0x3880_0010, 0x7c9b_4ba6, 0x3860_0040, 0x7c7a_4ba6, 0x4c00_0224]), (0x40, &[0x7ca0_00a6, 0xe8e6_0000]), (0x380, &[0x4800_0000])], 12, &[(5, 0x9000_0000_0000_1011), (7, 0)], &[(Srr0, 0x44), (Srr1, 0x9000_0000_0000_1011), (Msr, 0x9000_0000_0000_1001), (Cia, 0x380), (Traps, 1)]),
 ];
 
-/// Words of which the last one isn't built, as MSR would let the addresses of instructions be translated.
-#[rattlefmt::skip]
-static TRANSLATING: [&[u32]; 6] = [
-    &[0x7c80_00a6, 0x6088_0020, 0x7d00_0164], // mfmsr r4; ori r8,r4,32; mtmsrd r8,0
-    &[0x3880_0030, 0x7c81_0164, 0x7c80_0164], // li r4,0x30; mtmsrd r4,1; mtmsrd r4,0
-    &[0x3880_0020, 0x7c81_0164, 0x7c80_0164], // li r4,0x20; mtmsrd r4,1; mtmsrd r4,0
-    &[0x3880_4000, 0x7c81_0164, 0x7c80_0124], // li r4,0x4000; mtmsrd r4,1; mtmsr r4,0
-    &[0x3880_4000, 0x7c9b_03a6, 0x4c00_0024], // li r4,0x4000; mtspr 27,r4; rfid
-    &[0x3880_0020, 0x7c9b_4ba6, 0x4c00_0224], // li r4,0x20; mtspr 315,r4; hrfid
-];
-
 /// The bytes of words at rising addresses, in little-endian order, and zeros between them.
 pub fn image_of(alloc: Global, parts: &[(usize, &[u32])]) -> Result<Vec<u8>, NoMemory> {
     let mut image = Vec::new(alloc);
@@ -80,23 +69,6 @@ fn rows_of_the_system_leave_what_they_should(rt: HostRuntime) -> Result<(), Fail
                 leaves(&rt, &run, contents, names, parts)?;
             }
             Err(fault) => panic!(rt; "{fault:?} at {parts:?}"),
-        }
-    }
-    Ok(())
-}
-
-#[test]
-fn no_fetch_is_translated(rt: HostRuntime) -> Result<(), Fail> {
-    let alloc = rt.alloc();
-    for words in &TRANSLATING {
-        let image = image_of(alloc, &[(0, *words)])?;
-        match simulate(alloc, image.as_slice(), &Script::new(alloc), 3) {
-            Ok(_) => panic!(rt; "{words:?} runs"),
-            Err(fault) => assert_eq!(rt;
-                fault,
-                RunFault::Unbuilt { cycle: 2, cia: 8 },
-                "{words:?}"
-            ),
         }
     }
     Ok(())
