@@ -1,6 +1,8 @@
 # Each instruction, once or more: sums, loads and stores of every width, cache, prefixed rows, results
 # with carries, of logic, rotates and shifts, counts, permutes, products and quotients, compares, the condition
-# register, traps that don't hold, branches, and the system.
+# register, traps that don't hold, branches, and the system. All of it runs twice, at first privileged and with real
+# addresses, then in problem state behind translations. There the handler at 700 counts in r1 what is privileged, and
+# goes on behind it.
         addi   r3, r0, 0x800    # r3: where the bytes stand
         addis  r4, r0, -2       # r4 = fffffffffffe0000
         ori    r4, r4, 0x8081   # r4 = fffffffffffe8081
@@ -244,27 +246,49 @@ sub:    bcctr  4, 0, 0          # not taken, as bit 0 is 1
         bctar  4, 0, 0          # likewise
         bclr   12, 0, 0         # taken, to LR
 
-# The system: MSR, registers by number, what orders, and a service that returns at once.
-here:   mfmsr  r17              # 9000000000001001
-        mtmsrd r17, 1           # EE and RI alone, which stay 0
-        mtmsr  r17, 0           # all that can change, and stays
-        mtspr  272, r22         # SPRG0 = 1
-        mfspr  r18, 272         # 1
+# The system: MSR, registers by number, what orders, a service that returns at once, and returns. What is privileged is
+# marked by *.
+here:   mfmsr  r17              # * 9000000000001001
+        mtmsrd r17, 1           # * EE and RI alone, which stay 0
+        mtmsr  r17, 0           # * all that can change, and stays
+        mtspr  272, r22         # * SPRG0 = 1
+        mfspr  r18, 272         # * 1
+        mtspr  815, r22         # TAR = 1, which isn't privileged
+        mfspr  r18, 815         # 1
         mftb   r19, 268         # the cycle
         darn   r20, 1           # ffffffffffffffff: there is no random number
         isync
         sync   0
-        sync   2
+        sync   2                # *
         eieio
-        tlbsync
-        tlbie  r3, r22, 0, 0, 0
-        tlbiel r3, r22, 0, 0, 0
+        tlbsync                 # *
+        tlbie  r3, r22, 0, 0, 0 # *
+        tlbiel r3, r22, 0, 0, 0 # *
         sc                      # to c00, and back by rfid
-        li     r5, last
-        mtspr  314, r5          # HSRR0
-        mtspr  315, r17         # HSRR1
-        hrfid
+        li     r5, turn
+        mtspr  314, r5          # * HSRR0
+        mtspr  315, r17         # * HSRR1: MSR as it is
+        hrfid                   # *
+turn:   lis    r5, 2
+        mtspr  720, r5          # * PRTBL: a table of 4 KiB at 0x20000
+        li     r5, 0
+        mtspr  26, r5           # * SRR0: all of it again
+        li     r5, 0x4000
+        mtspr  27, r5           # * SRR1: PR, with which EE, IR and DR are set
+        rfid                    # *
 last:   b      last
+
+        .org   0x700            # program: the word at SRR0 is privileged
+        addi   r1, r1, 1
+        mfspr  r2, 26
+        addi   r2, r2, 4
+        mtspr  26, r2           # SRR0: the word behind it
+        rfid
 
         .org   0xc00
         rfid
+
+        .org   0x20000
+        .be64  0x0000000000021007 # process 0: a tree of 31 bits, its root of 7 bits at 0x21000
+        .org   0x21000
+        .be64  0xc000000000000187 # a page of 16 MiB, all of RAM: read, write, execute, referenced and changed
