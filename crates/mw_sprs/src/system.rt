@@ -8,8 +8,8 @@ ghost use Rattle.mw_isa.specs.Take.{IsUnmarked};
 use crate::moving::{read, write};
 use crate::numbers::refusal_of;
 use mw_isa::{
-    ILLEGAL, PR, PRIVILEGED, Raised, Regs, Slot, SprRefusal, SysOp, Use, Vector, bit_at,
-    has_bit, msr_from, msr_partly_from, raising, set_slot,
+    ILLEGAL, PR, PRIVILEGED, Raised, Regs, Slot, SprRefusal, SysOp, Use, Vector, bit_at, has_bit,
+    msr_from, msr_partly_from, raising, set_slot,
 };
 use mw_soc::Devices;
 

@@ -1,5 +1,5 @@
 -- An access to storage, from what its parts gave.
-use Rattle.std.proofs.Common.{◌≡◌, ℕ, ◌+◌, ◌-◌, ◌%◌, ◌≤◌, Bool, true, false, cond, List, ◌++◌, length, take, replicate, Option, Some, None, Ok, Err, sym, ap, ap₂, ◌∙◌, arith}
+use Rattle.std.proofs.Common.{◌≡◌, ℕ, ◌+◌, ◌-◌, ◌%◌, ◌^◌, ◌<◌, ◌≤◌, Bool, true, false, cond, List, ◌++◌, length, take, replicate, Option, Some, None, Result, Ok, Err, IfOk, sym, ap, ap₂, ◌∙◌, subst, arith}
 use Rattle.std.specs.Option.{option_map_or}
 use Rattle.std.proofs.lemmas.Bool.{and_parts, leb-true}
 use Rattle.std.proofs.lemmas.List.{length-append}
@@ -11,15 +11,18 @@ use Rattle.mw_soc.specs.Map.{device_loaded}
 use Rattle.mw_soc.proofs.Laws.{length-device_loaded}
 use Rattle.mw_isa.specs.declared.memory.MemOp.{MemOp}
 use Rattle.mw_isa.specs.declared.outcome.Outcome.TheVariants.{Memory}
+use Rattle.mw_isa.specs.declared.pages.Page.{Page}
 use Rattle.mw_isa.specs.declared.pages.Pages.{Pages}
+use Rattle.mw_isa.specs.declared.pages.StorageFault.{StorageFault}
 use Rattle.mw_isa.specs.declared.pages.Stretch.{Stretch}
 use Rattle.mw_isa.specs.declared.pages.Stretches.{Stretches}
 use Rattle.mw_isa.specs.declared.regs.Regs.{Regs}
-use Rattle.mw_isa.specs.Pages.{size_of, is_ram, is_in_ram, bytes_by, bytes_in, laid_in, stretches_of}
+use Rattle.mw_isa.specs.declared.walk.Translated.{Translated}
+use Rattle.mw_isa.specs.Pages.{page_size, size_of, is_ram, is_in_ram, bytes_by, bytes_in, laid_in, stretches_of}
 use Rattle.mw_isa.specs.Raises.{Placed}
 use Rattle.mw_isa.specs.Step.{OnPlaced}
 use Rattle.mw_isa.specs.Storage.{IsSized, IsPlaced, pages_of, raises_alignment, load_bytes}
-use Rattle.mw_isa.specs.Translate.{page_real}
+use Rattle.mw_isa.specs.Translate.{page_real, real_found, translate_of}
 use Rattle.mw_isa.proofs.PageLaws.{outside-single, placed-by}
 use Rattle.mw_isa.proofs.WalkPageLaws.{walk-page}
 use Rattle.mw_loadstore.specs.Pieces.{pieces_in}
@@ -71,3 +74,9 @@ pub access-stands : (ram : List ℕ) (regs : Regs) (op : MemOp) (pages : Pages) 
 access-stands ram regs op pages (Ok at) p e =
     placed-by (page_real ram regs) op at (walk-page ram regs) (ap (stretches_of (page_real ram regs)) (sym p) ∙ sym e)
 access-stands ram regs op pages (Err fault) p e = tt
+
+-- what a page was translated to has a real address of 60 bits
+pub found-real : (ram : List ℕ) (regs : Regs) (page : Page) (there : Translated) → translate_of ram regs page.kind page.ea ≡ Ok there → there.real < 2 ^ 60
+found-real ram regs page there e =
+    let real : (there.real < 2 ^ 60) × (there.real % page_size ≡ page.ea % page_size) = subst (λ (found : Result Translated StorageFault). IfOk (real_found found) (λ (at : ℕ). (at < 2 ^ 60) × (at % page_size ≡ page.ea % page_size))) e (walk-page ram regs page) in
+    real.0
