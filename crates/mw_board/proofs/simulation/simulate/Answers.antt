@@ -23,8 +23,8 @@ loop-cycle-init c = (
 
 pub loop-cycle-preserved : goal.loop-cycle-preserved
 loop-cycle-preserved c = (
-  made-next (record { image = c.args.image.now; script = c.args.script.now }) c.loop-cycle.events c.push.new.self c.loop-cycle.cycle c.turned.result (seen c.loop-cycle.state) (seen c.turned.new.state) c.advance.new.self.devices c.loop-cycle.invariant.0 (ap (λ (h : Housed). h.devices) c.advance.ensures) c.turned.ensures.event c.turned.ensures.after c.in-Ok-push.ensures.ok,
-  c.turned.ensures.room ∙ ap (λ (h : Housed). h.room) c.advance.ensures ∙ c.loop-cycle.invariant.1,
+  made-next (record { image = c.args.image.now; script = c.args.script.now }) c.loop-cycle.events c.push.new.self c.loop-cycle.cycle c.turned-event.result (seen c.loop-cycle.state) (seen c.turned-event.new.state) c.advance.new.self.devices c.loop-cycle.invariant.0 (ap (λ (h : Housed). h.devices) c.advance.ensures) c.turned-event.ensures.event c.turned-event.ensures.after c.in-Ok-push.ensures.ok,
+  c.turned-event.ensures.room ∙ ap (λ (h : Housed). h.room) c.advance.ensures ∙ c.loop-cycle.invariant.1,
 )
 
 pub returns-clause-runs : goal.returns-clause-runs
