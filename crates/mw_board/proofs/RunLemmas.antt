@@ -15,11 +15,11 @@ use Rattle.mw_isa.specs.State.{State, state_of, seen, brought}
 use Rattle.mw_isa.specs.Start.{Boot, start, start_regs}
 use Rattle.mw_soc.specs.Devices.{cycle_of, devices_at, start_devices}
 use Rattle.mw_isa.specs.Replay.{acted, replay, state_after, cycle_of_event, cycles_of}
-use Rattle.mw_isa.specs.Cycle.{event_of, passed}
+use Rattle.mw_isa.specs.Cycle.{next_event, passed}
 use Rattle.mw_isa.specs.Prompt.{is_prompt, IsPrompt}
 use Rattle.mw_isa.specs.Runs.{Runs}
 use Rattle.mw_soc.proofs.Laws.{cycle-devices_at}
-use Rattle.mw_isa.proofs.StepLaws.{cycle-acts, cycle-prompt, event_of-cycle, passed-cycle}
+use Rattle.mw_isa.proofs.StepLaws.{cycle-acts, cycle-prompt, next_event-cycle, passed-cycle}
 use Rattle.mw_isa.proofs.PromptLaws.{prompt-push}
 use Rattle.mw_isa.proofs.ReplayLaws.{replay-push}
 
@@ -71,16 +71,16 @@ made-start boot = record {
 }
 
 -- a run comes one cycle further by the cycle's event
-pub made-more : (boot : Boot) (events : List Event) (cycle : ℕ) (state : State) → IsMade boot events cycle state → IsMade boot (events ++ event_of (brought cycle state) ∷ []) (cycle + 1) (passed (brought cycle state))
+pub made-more : (boot : Boot) (events : List Event) (cycle : ℕ) (state : State) → IsMade boot events cycle state → IsMade boot (events ++ next_event (brought cycle state) ∷ []) (cycle + 1) (passed (brought cycle state))
 made-more boot events cycle state m =
     let there : State = brought cycle state in
     let from : 0 + cycle ≡ cycle = omega arith in
-    let now : cycle_of_event (event_of there) ≡ cycle = event_of-cycle there ∙ cycle-devices_at state.devices cycle in
+    let now : cycle_of_event (next_event there) ≡ cycle = next_event-cycle there ∙ cycle-devices_at state.devices cycle in
     let at : cycle_of (passed there).devices ≡ cycle = passed-cycle there ∙ cycle-devices_at state.devices cycle in
     record {
-      made = replay-push events (event_of there) (start boot) state (passed there) m.made (ap (λ (k : ℕ). acted (event_of there) (brought k state)) now ∙ cycle-acts there);
-      prompt = prompt-push events (event_of there) (start boot) state m.prompt m.made (subst (λ (k : ℕ). IsTrue (is_prompt (event_of there) (brought k state))) (sym now) (cycle-prompt there));
-      cycles = map-append cycle_of_event events (event_of there ∷ []) ∙ ap₂ (λ (xs : List ℕ) (k : ℕ). xs ++ k ∷ []) m.cycles now ∙ sym (range_with_len-more 0 cycle cycle from);
+      made = replay-push events (next_event there) (start boot) state (passed there) m.made (ap (λ (k : ℕ). acted (next_event there) (brought k state)) now ∙ cycle-acts there);
+      prompt = prompt-push events (next_event there) (start boot) state m.prompt m.made (subst (λ (k : ℕ). IsTrue (is_prompt (next_event there) (brought k state))) (sym now) (cycle-prompt there));
+      cycles = map-append cycle_of_event events (next_event there ∷ []) ∙ ap₂ (λ (xs : List ℕ) (k : ℕ). xs ++ k ∷ []) m.cycles now ∙ sym (range_with_len-more 0 cycle cycle from);
       stands = omega arith;
     }
 
@@ -109,12 +109,12 @@ made-init boot events state e s =
     subst (λ (es : List Event). IsMade boot es 0 state) (sym e) (subst (IsMade boot [] 0) (sym s) (made-start boot))
 
 -- how far a run has come one cycle further, from the parts of its state
-pub made-next : (boot : Boot) (events more : List Event) (cycle : ℕ) (event : Event) (state after : State) (devices : DeviceData) → IsMade boot events cycle state → devices ≡ devices_at state.devices cycle → event ≡ event_of (state_of state.regs state.ram devices) → after ≡ passed (state_of state.regs state.ram devices) → more ≡ events ++ event ∷ [] → IsMade boot more (cycle + 1) after
+pub made-next : (boot : Boot) (events more : List Event) (cycle : ℕ) (event : Event) (state after : State) (devices : DeviceData) → IsMade boot events cycle state → devices ≡ devices_at state.devices cycle → event ≡ next_event (state_of state.regs state.ram devices) → after ≡ passed (state_of state.regs state.ram devices) → more ≡ events ++ event ∷ [] → IsMade boot more (cycle + 1) after
 made-next boot events more cycle event state after devices m d happens leaves e =
-    let now : event ≡ event_of (brought cycle state) = happens ∙ ap (λ (v : DeviceData). event_of (state_of state.regs state.ram v)) d in
+    let now : event ≡ next_event (brought cycle state) = happens ∙ ap (λ (v : DeviceData). next_event (state_of state.regs state.ram v)) d in
     let then : after ≡ passed (brought cycle state) = leaves ∙ ap (λ (v : DeviceData). passed (state_of state.regs state.ram v)) d in
     subst (λ (es : List Event). IsMade boot es (cycle + 1) after) (sym (e ∙ ap (λ (x : Event). events ++ x ∷ []) now))
-    (subst (IsMade boot (events ++ event_of (brought cycle state) ∷ []) (cycle + 1)) (sym then) (made-more boot events cycle state m))
+    (subst (IsMade boot (events ++ next_event (brought cycle state) ∷ []) (cycle + 1)) (sym then) (made-more boot events cycle state m))
 
 -- the end of a run, from the parts of its state
 pub made-end : (boot : Boot) (n : ℕ) (events all : List Event) (cycle : ℕ) (end : End) (state last : State) → IsMade boot events cycle state → cycle ≡ n → length boot.image ≤ 16777216 → all ≡ events → end ≡ Ran n → last ≡ brought n state → Runs boot n all end last
