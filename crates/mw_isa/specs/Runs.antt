@@ -7,8 +7,7 @@
 -- until there.
 --
 -- Below is what of it is built: image, script, number of cycles, events, registers, memory, UART bytes, interrupts, and
--- the 8,192 cycles. Waits and the update discipline aren't built yet, and a run that reaches an instruction that isn't
--- built, one that would turn the translation of instruction addresses on, is refused.
+-- the 8,192 cycles. Waits and the update discipline aren't built yet.
 use Rattle.std.specs.Prelude.{ℕ, ◌≡◌, ◌≤◌, ◌<◌, List, length, Some, All}
 use Rattle.std.specs.List.Sorted.{IsStrictlyIncreasing}
 use Rattle.mw_bus.specs.Memory.{ram_size}
