@@ -1,3 +1,2 @@
-pub mod TurnLemmas
 pub mod RunLemmas
 pub mod ImageLemmas

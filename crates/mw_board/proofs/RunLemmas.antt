@@ -1,5 +1,5 @@
--- A run of the plain board: the events so far, the state, and where an instruction isn't built.
-use Rattle.std.proofs.Common.{◌≡◌, IsTrue, ℕ, zero, suc, ◌+◌, ◌-◌, ◌<◌, ◌≤◌, Bool, false, cond, List, [], ◌∷◌, ◌++◌, length, Some, None, option_map, refl, sym, ap, ap₂, ◌∙◌, subst, arith}
+-- A run of the board: the events so far, and the state.
+use Rattle.std.proofs.Common.{◌≡◌, IsTrue, ℕ, zero, suc, ◌+◌, ◌<◌, ◌≤◌, List, [], ◌∷◌, ◌++◌, length, Some, option_map, refl, sym, ap, ap₂, ◌∙◌, subst, arith}
 use Rattle.std.specs.List.{range_with_len}
 use Rattle.std.specs.List.Sorted.{IsStrictlyIncreasing}
 use Rattle.std.specs.List.{All, Contains}
@@ -15,16 +15,13 @@ use Rattle.mw_isa.specs.State.{State, state_of, seen, brought}
 use Rattle.mw_isa.specs.Start.{Boot, start, start_regs}
 use Rattle.mw_soc.specs.Devices.{cycle_of, devices_at, start_devices}
 use Rattle.mw_isa.specs.Replay.{acted, replay, state_after, cycle_of_event, cycles_of}
-use Rattle.mw_isa.specs.Unbuilt.{passed, passes, unbuilt_from, first_unbuilt}
+use Rattle.mw_isa.specs.Cycle.{next_event, passed}
 use Rattle.mw_isa.specs.Prompt.{is_prompt, IsPrompt}
 use Rattle.mw_isa.specs.Runs.{Runs}
 use Rattle.mw_soc.proofs.Laws.{cycle-devices_at}
-use Rattle.mw_isa.proofs.StepLaws.{passed-cycle}
+use Rattle.mw_isa.proofs.StepLaws.{cycle-acts, cycle-prompt, next_event-cycle, passed-cycle}
 use Rattle.mw_isa.proofs.PromptLaws.{prompt-push}
 use Rattle.mw_isa.proofs.ReplayLaws.{replay-push}
-use Rattle.mw_board.specs.declared.run.RunFault.TheVariants.{Unbuilt}
-use Rattle.mw_board.specs.Faults.{HasCause}
-use Rattle.mw_board.specs.Plain.{Turns}
 
 -- one more number of a range
 range_with_len-more : (a n j : ℕ) → a + n ≡ j → range_with_len a (n + 1) ≡ range_with_len a n ++ j ∷ []
@@ -56,49 +53,39 @@ range-contains n i h =
     let here = get_or-range_with_len 0 n i i h in
     (i, omega arith, omega arith)
 
--- how far a run has come: the events lead to the state, and left no interrupt waiting; there is one a cycle, and what isn't
--- built is still ahead
-pub record IsMade (boot : Boot) (n : ℕ) (events : List Event) (cycle : ℕ) (state : State) : Type 0 where
+-- how far a run has come: the events lead to the state, and left no interrupt waiting, and there is one a cycle
+pub record IsMade (boot : Boot) (events : List Event) (cycle : ℕ) (state : State) : Type 0 where
   pub made : replay events (start boot) ≡ Some state
   pub prompt : IsPrompt events (start boot)
   pub cycles : cycles_of events ≡ range_with_len 0 cycle
-  pub ahead : unbuilt_from (n - cycle) cycle state ≡ first_unbuilt boot n
   pub stands : cycle_of state.devices ≤ cycle
 
 -- at the start a run has come nowhere, and no event has happened
-pub made-start : (boot : Boot) (n : ℕ) → IsMade boot n [] 0 (start boot)
-unfolding first_unbuilt start
-made-start boot n =
-    let whole : n - 0 ≡ n = omega arith in
-    record {
-      made = refl;
-      prompt = tt;
-      cycles = refl;
-      ahead = ap (λ (k : ℕ). unbuilt_from k 0 (start boot)) whole;
-      stands = omega arith;
-    }
+pub made-start : (boot : Boot) → IsMade boot [] 0 (start boot)
+unfolding start
+made-start boot = record {
+  made = refl;
+  prompt = tt;
+  cycles = refl;
+  stands = omega arith;
+}
 
--- a run comes one cycle further by an event
-pub made-more : (boot : Boot) (n : ℕ) (events : List Event) (cycle : ℕ) (event : Event) (state after : State) → cycle < n → IsMade boot n events cycle state → Turns (Some event) (brought cycle state) after → IsMade boot n (events ++ event ∷ []) (cycle + 1) after
-made-more boot n events cycle event state after below m t =
-    let left : n - cycle ≡ suc (n - (cycle + 1)) = omega arith in
+-- a run comes one cycle further by the cycle's event
+pub made-more : (boot : Boot) (events : List Event) (cycle : ℕ) (state : State) → IsMade boot events cycle state → IsMade boot (events ++ next_event (brought cycle state) ∷ []) (cycle + 1) (passed (brought cycle state))
+made-more boot events cycle state m =
+    let there : State = brought cycle state in
     let from : 0 + cycle ≡ cycle = omega arith in
-    let now : cycle_of_event event ≡ cycle = t.cycle ∙ cycle-devices_at state.devices cycle in
-    let at : cycle_of after.devices ≡ cycle =
-    ap (λ (s : State). cycle_of s.devices) (sym t.leaves) ∙ passed-cycle (brought cycle state) ∙ cycle-devices_at state.devices cycle in
-    let u : unbuilt_from (n - cycle) cycle state ≡ unbuilt_from (n - (cycle + 1)) (cycle + 1) after =
-    ap (λ (l : ℕ). unbuilt_from l cycle state) left
-    ∙ ap₂ (λ (b : Bool) (s : State). cond b (unbuilt_from (n - (cycle + 1)) (cycle + 1) s) (Some (cycle, state.regs.cia))) t.can t.leaves in
+    let now : cycle_of_event (next_event there) ≡ cycle = next_event-cycle there ∙ cycle-devices_at state.devices cycle in
+    let at : cycle_of (passed there).devices ≡ cycle = passed-cycle there ∙ cycle-devices_at state.devices cycle in
     record {
-      made = replay-push events event (start boot) state after m.made (ap (λ (k : ℕ). acted event (brought k state)) now ∙ t.acts);
-      prompt = prompt-push events event (start boot) state m.prompt m.made (subst (λ (k : ℕ). IsTrue (is_prompt event (brought k state))) (sym now) t.prompt);
-      cycles = map-append cycle_of_event events (event ∷ []) ∙ ap₂ (λ (xs : List ℕ) (k : ℕ). xs ++ k ∷ []) m.cycles now ∙ sym (range_with_len-more 0 cycle cycle from);
-      ahead = sym u ∙ m.ahead;
+      made = replay-push events (next_event there) (start boot) state (passed there) m.made (ap (λ (k : ℕ). acted (next_event there) (brought k state)) now ∙ cycle-acts there);
+      prompt = prompt-push events (next_event there) (start boot) state m.prompt m.made (subst (λ (k : ℕ). IsTrue (is_prompt (next_event there) (brought k state))) (sym now) (cycle-prompt there));
+      cycles = map-append cycle_of_event events (next_event there ∷ []) ∙ ap₂ (λ (xs : List ℕ) (k : ℕ). xs ++ k ∷ []) m.cycles now ∙ sym (range_with_len-more 0 cycle cycle from);
       stands = omega arith;
     }
 
 -- a run to its end has the headline
-pub made-runs : (boot : Boot) (n : ℕ) (events : List Event) (state : State) → length boot.image ≤ 16777216 → IsMade boot n events n state → Runs boot n events (Ran n) (brought n state)
+pub made-runs : (boot : Boot) (n : ℕ) (events : List Event) (state : State) → length boot.image ≤ 16777216 → IsMade boot events n state → Runs boot n events (Ran n) (brought n state)
 unfolding state_after
 made-runs boot n events state fits m = record {
   fits = fits;
@@ -117,30 +104,20 @@ seen-start boot room whole ram devices w r d =
     ap seen w ∙ ap₂ (λ (bytes : List ℕ) (housed : Housed). state_of start_regs bytes housed.devices) r d
 
 -- how far a run has come at the start, from the parts of its state
-pub made-init : (boot : Boot) (n : ℕ) (events : List Event) (state : State) → events ≡ [] → state ≡ start boot → IsMade boot n events 0 state
-made-init boot n events state e s =
-    subst (λ (es : List Event). IsMade boot n es 0 state) (sym e) (subst (IsMade boot n [] 0) (sym s) (made-start boot n))
+pub made-init : (boot : Boot) (events : List Event) (state : State) → events ≡ [] → state ≡ start boot → IsMade boot events 0 state
+made-init boot events state e s =
+    subst (λ (es : List Event). IsMade boot es 0 state) (sym e) (subst (IsMade boot [] 0) (sym s) (made-start boot))
 
 -- how far a run has come one cycle further, from the parts of its state
-pub made-next : (boot : Boot) (n : ℕ) (events more : List Event) (cycle : ℕ) (event : Event) (state after : State) (devices : DeviceData) → cycle < n → IsMade boot n events cycle state → devices ≡ devices_at state.devices cycle → Turns (Some event) (state_of state.regs state.ram devices) after → more ≡ events ++ event ∷ [] → IsMade boot n more (cycle + 1) after
-made-next boot n events more cycle event state after devices below m d t e =
-    let u = subst (λ (v : DeviceData). Turns (Some event) (state_of state.regs state.ram v) after) d t in
-    subst (λ (es : List Event). IsMade boot n es (cycle + 1) after) (sym e) (made-more boot n events cycle event state after below m u)
-
--- what isn't built is met where no cycle can pass
-pub made-unbuilt : (boot : Boot) (n : ℕ) (events : List Event) (cycle : ℕ) (state after : State) (devices : DeviceData) → cycle < n → length boot.image ≤ 16777216 → IsMade boot n events cycle state → devices ≡ devices_at state.devices cycle → Turns None (state_of state.regs state.ram devices) after → HasCause boot n (Unbuilt cycle after.regs.cia)
-made-unbuilt boot n events cycle state after devices below fits m d t =
-    let stays : (passes (brought cycle state) ≡ false) × (after ≡ brought cycle state) = subst (λ (v : DeviceData). Turns None (state_of state.regs state.ram v) after) d t in
-    let left : n - cycle ≡ suc (n - (cycle + 1)) = omega arith in (
-      fits,
-      sym m.ahead
-          ∙ ap (λ (l : ℕ). unbuilt_from l cycle state) left
-          ∙ ap (λ (b : Bool). cond b (unbuilt_from (n - (cycle + 1)) (cycle + 1) (passed (brought cycle state))) (Some (cycle, state.regs.cia))) stays.0
-          ∙ ap (λ (s : State). Some (cycle, s.regs.cia)) (sym stays.1),
-    )
+pub made-next : (boot : Boot) (events more : List Event) (cycle : ℕ) (event : Event) (state after : State) (devices : DeviceData) → IsMade boot events cycle state → devices ≡ devices_at state.devices cycle → event ≡ next_event (state_of state.regs state.ram devices) → after ≡ passed (state_of state.regs state.ram devices) → more ≡ events ++ event ∷ [] → IsMade boot more (cycle + 1) after
+made-next boot events more cycle event state after devices m d happens leaves e =
+    let now : event ≡ next_event (brought cycle state) = happens ∙ ap (λ (v : DeviceData). next_event (state_of state.regs state.ram v)) d in
+    let then : after ≡ passed (brought cycle state) = leaves ∙ ap (λ (v : DeviceData). passed (state_of state.regs state.ram v)) d in
+    subst (λ (es : List Event). IsMade boot es (cycle + 1) after) (sym (e ∙ ap (λ (x : Event). events ++ x ∷ []) now))
+    (subst (IsMade boot (events ++ next_event (brought cycle state) ∷ []) (cycle + 1)) (sym then) (made-more boot events cycle state m))
 
 -- the end of a run, from the parts of its state
-pub made-end : (boot : Boot) (n : ℕ) (events all : List Event) (cycle : ℕ) (end : End) (state last : State) → IsMade boot n events cycle state → cycle ≡ n → length boot.image ≤ 16777216 → all ≡ events → end ≡ Ran n → last ≡ brought n state → Runs boot n all end last
+pub made-end : (boot : Boot) (n : ℕ) (events all : List Event) (cycle : ℕ) (end : End) (state last : State) → IsMade boot events cycle state → cycle ≡ n → length boot.image ≤ 16777216 → all ≡ events → end ≡ Ran n → last ≡ brought n state → Runs boot n all end last
 made-end boot n events all cycle end state last m at fits a e b =
     subst (λ (es : List Event). Runs boot n es end last) (sym a) (subst (λ (x : End). Runs boot n events x last) (sym e)
-    (subst (Runs boot n events (Ran n)) (sym b) (made-runs boot n events state fits (subst (λ (k : ℕ). IsMade boot n events k state) at m))))
+    (subst (Runs boot n events (Ran n)) (sym b) (made-runs boot n events state fits (subst (λ (k : ℕ). IsMade boot events k state) at m))))

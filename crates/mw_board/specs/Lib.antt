@@ -1,3 +1,2 @@
--- In reading order: one instruction, and when a run is refused.
-pub mod Plain
+-- When a run is refused.
 pub mod Faults

@@ -1,6 +1,6 @@
 ghost use Rattle.std.specs.Prelude.{◌≡◌, None};
 ghost use Rattle.mw_isa.specs.Choose.{chosen};
-ghost use Rattle.mw_isa.specs.Cycle.{event_at, event_of, passed};
+ghost use Rattle.mw_isa.specs.Cycle.{event_at, next_event, passed};
 ghost use Rattle.mw_isa.specs.State.{seen};
 ghost use Rattle.mw_isa.specs.Step.{step};
 
@@ -22,7 +22,7 @@ fn instructed(state: &mut State, prepared: &mut Prepared) -> Event
 /// What happens in the devices' cycle: the interrupt that is chosen, or else the next instruction. There is always an
 /// event. It takes no memory, and can't fail.
 pub fn turned(state: &mut State, prepared: &mut Prepared) -> Event
-    ensures event { result ≡ event_of (seen state.old) }
+    ensures event { result ≡ next_event (seen state.old) }
     ensures after { seen state.new ≡ passed (seen state.old) }
     ensures room { state.new.devices.room ≡ state.old.devices.room }
 {

@@ -2,7 +2,7 @@
 use Rattle.std.proofs.Common.{◌≡◌, ℕ, ◌⊎◌, inl, inr, List, Option, Some, None, IsSomeAnd, IfSome, IsSome, IsTrue, option_map, slice_get, refl, sym, ap, ◌∙◌, subst}
 use Rattle.mw_io.specs.Outside.{HostState}
 use Rattle.mw_cli.specs.declared.status.Status.{Status}
-use Rattle.mw_cli.specs.declared.status.Status.TheVariants.{Done, Usage, ReadFault, WriteFault, ImageTooLarge, BadInput, NoMemory, Unbuilt}
+use Rattle.mw_cli.specs.declared.status.Status.TheVariants.{Done, Usage, ReadFault, WriteFault, ImageTooLarge, BadInput, NoMemory}
 use Rattle.mw_cli.specs.Command.{Wanted, Order, files_of, order_of}
 use Rattle.mw_cli.specs.Verdict.{Output, Verdict, Writes, Refuses, status_by, verdict_of}
 use Rattle.mw_cli.specs.Outside.{Change, contents_of}
@@ -46,7 +46,6 @@ shows call WriteFault order told asks says =
 shows call ImageTooLarge order told asks says = refused-shows call ImageTooLarge order told asks says
 shows call BadInput order told asks says = refused-shows call BadInput order told asks says
 shows call NoMemory order told asks says = inr (inr (inr refl))
-shows call Unbuilt order told asks says = refused-shows call Unbuilt order told asks says
 
 -- what is written isn't refused
 writes_or_refuses : (verdict : Verdict) (output : Output) (status : Status) (line : List ℕ) → verdict ≡ Writes output → verdict ≡ Refuses status line → ⊥

@@ -3,7 +3,7 @@ use Rattle.std.proofs.Common.{◌≡◌, ℕ, Option, Some, IsSomeAnd, inl, inr,
 use Rattle.mw_io.specs.Outside.{HostState, SinkState, Counts}
 use Rattle.mw_cli.specs.declared.status.Status.TheVariants.{Done, ReadFault, WriteFault, NoMemory}
 use Rattle.mw_cli.specs.declared.refusal.Refusal.{Refusal}
-use Rattle.mw_cli.specs.declared.refusal.Refusal.TheVariants.{Unreadable, Unwritable, TooLarge, Bad, OutOfMemory, NotBuilt}
+use Rattle.mw_cli.specs.declared.refusal.Refusal.TheVariants.{Unreadable, Unwritable, TooLarge, Bad, OutOfMemory}
 use Rattle.mw_cli.specs.Command.{Order, order_of}
 use Rattle.mw_cli.specs.Outside.{Change, change, TookNothing, TookUnlessFault}
 use Rattle.mw_cli.specs.Numbers.{status_of}
@@ -15,7 +15,6 @@ use Rattle.mw_cli.proofs.VerdictLemmas.{calm}
 pub nothing-cause : (host : Change HostState) (out : Change SinkState) (order : Order) (refusal : Refusal) → TookNothing out → GivesNothing host order refusal → HasCause host out order refusal
 nothing-cause host out order (Unreadable name) silent cause = (cause, silent)
 nothing-cause host out order TooLarge silent cause = (cause, silent)
-nothing-cause host out order (NotBuilt cia) silent cause = (cause, silent)
 nothing-cause host out order (Bad name line column) silent cause = (cause, silent)
 nothing-cause host out order Unwritable silent cause = absurd cause
 nothing-cause host out order OutOfMemory silent cause = inl silent
@@ -24,7 +23,6 @@ nothing-cause host out order OutOfMemory silent cause = inl silent
 nothing-written : (host : Change HostState) (order : Order) (refusal : Refusal) → GivesNothing host order refusal → status_of refusal ≡ WriteFault → ⊥
 nothing-written host order (Unreadable name) cause e = cc
 nothing-written host order TooLarge cause e = cc
-nothing-written host order (NotBuilt cia) cause e = cc
 nothing-written host order (Bad name line column) cause e = cc
 nothing-written host order Unwritable cause e = absurd cause
 nothing-written host order OutOfMemory cause e = cc
@@ -60,7 +58,6 @@ on-order call order P e h = subst (λ (o : Option Order). IsSomeAnd o P) (sym e)
 pub says-refused : (call : Call) (order : Order) (refusal : Refusal) → order_of call.words ≡ Some order → HasCause call.host call.out order refusal → TookUnlessFault call.err (line_of refusal) → Says call (status_of refusal)
 says-refused call order (Unreadable name) e (cause, silent) told = on-order call order _ e (name.now, cause, (silent, told))
 says-refused call order TooLarge e (cause, silent) told = on-order call order _ e (line_of TooLarge, cause, (silent, told))
-says-refused call order (NotBuilt cia) e (cause, silent) told = on-order call order _ e (line_of (NotBuilt cia), cause, (silent, told))
 says-refused call order (Bad name line column) e (cause, silent) told = on-order call order _ e (line_of (Bad name line column), cause, (silent, told))
 says-refused call order Unwritable e cause told = (on-order call order _ e cause, told)
 says-refused call order OutOfMemory e (inl silent) told = (inl silent, told)

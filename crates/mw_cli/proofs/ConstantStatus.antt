@@ -1,17 +1,16 @@
 -- No refusal can be answered at every call: the contract itself excludes a program that always gives one of them.
-use Rattle.std.proofs.Common.{◌≡◌, ℕ, ◌≤◌, List, [], length, Option, Some, None, Result, Ok, IfSome, ap, ap₂, subst, ◌∙◌, arith}
+use Rattle.std.proofs.Common.{◌≡◌, ℕ, ◌≤◌, List, length, Option, Some, None, Ok, IfSome, ap, subst, ◌∙◌, arith}
 use Rattle.mw_io.specs.Outside.{HostState, Rose, content_of}
 use Rattle.mw_asm.specs.Assembled.{assembled}
-use Rattle.mw_uart.specs.Script.{Place as ScriptPlace, script_of}
-use Rattle.mw_isa.specs.Unbuilt.{first_unbuilt}
-use Rattle.mw_cli.specs.declared.status.Status.TheVariants.{Usage, ReadFault, WriteFault, ImageTooLarge, BadInput, Unbuilt}
+use Rattle.mw_uart.specs.Script.{script_of}
+use Rattle.mw_cli.specs.declared.status.Status.TheVariants.{Usage, ReadFault, WriteFault, ImageTooLarge, BadInput}
 use Rattle.mw_cli.specs.Command.{RunOrder, Order, Run, Assemble, Disassemble, order_of}
 use Rattle.mw_cli.specs.Outside.{Change}
 use Rattle.mw_cli.specs.Answers.{Call, Asks, Answers}
-use Rattle.mw_cli.specs.Stages.{IsContent, IsTooLong, IsScriptOf}
+use Rattle.mw_cli.specs.Stages.{IsContent, IsTooLong}
 use Rattle.mw_cli.proofs.FileLemmas.{Files}
 use Rattle.mw_cli.proofs.AnswerLemmas.{some_or_none}
-use Rattle.mw_cli.proofs.EachStatus.{usage, read-fault, write-fault, too-large, too-large-disassembly, unbuilt, bad-input, bad-run, bad-disassembly, script_text}
+use Rattle.mw_cli.proofs.EachStatus.{usage, read-fault, write-fault, too-large, too-large-disassembly, bad-input, bad-run, bad-disassembly}
 
 -- Usage isn't answered where the words are an order
 pub never-usage : (call : Call) (order : Order) → order_of call.words ≡ Some order → Answers call Usage → ⊥
@@ -28,15 +27,6 @@ never-write-fault call calm a = calm (write-fault call a)
 -- the content of a file of a host that tells its files
 told-content : (host : Change HostState) (name bytes : List ℕ) (told : List ℕ → Option (List ℕ)) → host.before.files ≡ Some told → IsContent host name bytes → bytes ≡ content_of told name
 told-content host name bytes told files is = subst (λ (o : Files). IfSome o (λ t. bytes ≡ content_of t name)) files is
-
--- the script of a run over a host that tells its files
-ok-once : (r : Result (List (ℕ × ℕ)) ScriptPlace) (s t : List (ℕ × ℕ)) → r ≡ Ok s → r ≡ Ok t → s ≡ t
-ok-once r s t a b = cc
-
-told-script : (host : Change HostState) (named : Option (List ℕ)) (one other : List (ℕ × ℕ)) (told : List ℕ → Option (List ℕ)) → host.before.files ≡ Some told → IsScriptOf host named one → script_of (script_text told named) ≡ Ok other → one ≡ other
-told-script host None one other told files is read = ok-once (script_of []) one other is read
-told-script host (Some name) one other told files (text, content, is) read =
-    ok-once (script_of text) one other is (ap script_of (told-content host name text told files content) ∙ read)
 
 -- a file that fits isn't too long
 not-long : (host : Change HostState) (name : List ℕ) (told : List ℕ → Option (List ℕ)) → host.before.files ≡ Some told → length (content_of told name) ≤ 16777216 → IsTooLong host name → ⊥
@@ -74,13 +64,4 @@ pub never-bad-input : (call : Call) (name : List ℕ) (told : List ℕ → Optio
 never-bad-input call name told bytes asks ok a =
     let (source, place, content, bad) = bad-input call name asks.0 a in
     let same : assembled source ≡ Ok bytes = ap assembled (told-content call.host name source told asks.1 content) ∙ ok in
-    cc
-
--- Unbuilt isn't answered where all that a run reaches is built
-pub never-unbuilt : (call : Call) (order : RunOrder) (told : List ℕ → Option (List ℕ)) (script : List (ℕ × ℕ)) → Asks call (Run order) told → script_of (script_text told order.script) ≡ Ok script → first_unbuilt (record { image = content_of told order.image; script = script }) order.cycles ≡ None → Answers call Unbuilt → ⊥
-never-unbuilt call order told script asks read built a =
-    let (image, other, cia, start, (cycle, stop)) = unbuilt call order asks.0 a in
-    let bytes : image ≡ content_of told order.image = told-content call.host order.image image told asks.1 start.image_is in
-    let pairs : other ≡ script = told-script call.host order.script other script told asks.1 start.script_is read in
-    let same : first_unbuilt (record { image = image; script = other }) order.cycles ≡ None = ap₂ (λ (i : List ℕ) (s : List (ℕ × ℕ)). first_unbuilt (record { image = i; script = s }) order.cycles) bytes pairs ∙ built in
     cc

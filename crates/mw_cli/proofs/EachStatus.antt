@@ -5,18 +5,17 @@ use Rattle.mw_io.specs.Outside.{HostState, Counts, Rose, content_of}
 use Rattle.mw_bus.specs.Memory.{ram_size}
 use Rattle.mw_uart.specs.Script.{Place as ScriptPlace, script_of}
 use Rattle.mw_uart.proofs.Laws.{script_of-empty}
-use Rattle.mw_isa.specs.Unbuilt.{first_unbuilt}
 use Rattle.mw_asm.specs.declared.fault.Place.{Place}
 use Rattle.mw_asm.specs.Assembled.{assembled}
 use Rattle.mw_asm.specs.Disassembly.{disassembly}
 use Rattle.mw_cli.specs.declared.status.Status.{Status}
-use Rattle.mw_cli.specs.declared.status.Status.TheVariants.{Done, Usage, ReadFault, WriteFault, ImageTooLarge, BadInput, NoMemory, Unbuilt}
+use Rattle.mw_cli.specs.declared.status.Status.TheVariants.{Done, Usage, ReadFault, WriteFault, ImageTooLarge, BadInput, NoMemory}
 use Rattle.mw_cli.specs.Command.{Wanted, RunOrder, Order, Run, Assemble, Disassemble, files_of, script_files, order_of}
-use Rattle.mw_cli.specs.Headline.{AskedRun, SpellsRun}
-use Rattle.mw_cli.specs.Verdict.{Output, TextOf, Bytes, IsOutput, Verdict, Writes, Refuses, status_by, first_of, second_of, text_by, run_by, verdict_on, verdict_by, with_script, unless_too_large, unless_unbuilt, unless_bad, too_large_line, unbuilt_line, bad_line}
+use Rattle.mw_cli.specs.Headline.{SpellsRun}
+use Rattle.mw_cli.specs.Verdict.{Output, TextOf, Bytes, IsOutput, Verdict, Writes, Refuses, status_by, first_of, second_of, text_by, run_by, verdict_by, with_script, unless_too_large, unless_bad, too_large_line, bad_line}
 use Rattle.mw_cli.specs.Outside.{Change, contents_of, TookNothing, Took, TookFront}
 use Rattle.mw_cli.specs.Answers.{Call, ComesTo, Written, CutShort, OnOrder, Refused, Asks, IsUnanswered, Answers, verdict_with}
-use Rattle.mw_cli.specs.Stages.{IsContent, IsTooLong, IsStart, IsBadScript, ReachesUnbuilt}
+use Rattle.mw_cli.specs.Stages.{IsContent, IsTooLong, IsStart, IsBadScript}
 use Rattle.mw_cli.proofs.FileLemmas.{Files}
 use Rattle.mw_cli.proofs.VerdictLemmas.{IsText, fits, too_long, starts, refused, script-from}
 use Rattle.mw_cli.proofs.AnswerLemmas.{at_some}
@@ -40,7 +39,6 @@ always-usage call WriteFault none a = absurd (no_order _ _ none a.says.0)
 always-usage call ImageTooLarge none a = absurd (no_order _ _ none a.says)
 always-usage call BadInput none a = absurd (no_order _ _ none a.says)
 always-usage call NoMemory none a = elim a.says.0 [ inl silent ↦ inr (refl, silent) | inr (rose, cut) ↦ absurd (no_order _ _ none cut) ]
-always-usage call Unbuilt none a = absurd (no_order _ _ none a.says)
 
 -- ---- ReadFault and WriteFault
 
@@ -74,7 +72,6 @@ always-read-fault call WriteFault greater a = absurd (risen _ _ _ greater a.faul
 always-read-fault call ImageTooLarge greater a = absurd (risen _ _ _ greater a.faults.reads (λ (e : ImageTooLarge ≡ ReadFault). cc))
 always-read-fault call BadInput greater a = absurd (risen _ _ _ greater a.faults.reads (λ (e : BadInput ≡ ReadFault). cc))
 always-read-fault call NoMemory greater a = absurd (risen _ _ _ greater a.faults.reads (λ (e : NoMemory ≡ ReadFault). cc))
-always-read-fault call Unbuilt greater a = absurd (risen _ _ _ greater a.faults.reads (λ (e : Unbuilt ≡ ReadFault). cc))
 
 -- where out's count of faults is greater than before, WriteFault comes
 pub always-write-fault : (call : Call) (status : Status) → call.out.before.faults < call.out.after.faults → Answers call status → status ≡ WriteFault
@@ -85,7 +82,6 @@ always-write-fault call WriteFault greater a = refl
 always-write-fault call ImageTooLarge greater a = absurd (risen _ _ _ greater a.faults.writes (λ (e : ImageTooLarge ≡ WriteFault). cc))
 always-write-fault call BadInput greater a = absurd (risen _ _ _ greater a.faults.writes (λ (e : BadInput ≡ WriteFault). cc))
 always-write-fault call NoMemory greater a = absurd (risen _ _ _ greater a.faults.writes (λ (e : NoMemory ≡ WriteFault). cc))
-always-write-fault call Unbuilt greater a = absurd (risen _ _ _ greater a.faults.writes (λ (e : Unbuilt ≡ WriteFault). cc))
 
 -- ---- what an order of each kind comes to
 
@@ -107,34 +103,20 @@ long-or-so image verdict status line e = elim (cases_lt 16777216 (length image))
   | inr short ↦ inr (short, sym (fits image verdict short) ∙ e)
 ]
 
--- a run of an image that fits is refused as Unbuilt alone, with the address of the first instruction that isn't built
-run-stops-at : (o : Option (ℕ × ℕ)) (output : Output) (status : Status) (line : List ℕ) → unless_unbuilt o output ≡ Refuses status line → (status ≡ Unbuilt) × ((cycle : ℕ) × (cia : ℕ) × (o ≡ Some (cycle, cia)) × (line ≡ unbuilt_line cia))
-run-stops-at None output status line e = cc
-run-stops-at (Some (cycle, cia)) output status line e = let same : status ≡ Unbuilt = cc in (same, (cycle, cia, refl, cc))
-
 -- a script that is refused at a place, with its line
 abbrev IsBad : List ℕ → Result (List (ℕ × ℕ)) ScriptPlace → Status → List ℕ → Type 0
 IsBad name read status line = (place : ScriptPlace) × (read ≡ Err place) × (status ≡ BadInput) × (line ≡ bad_line name place.line place.column)
 
--- a script that is read, whose run reaches an instruction that isn't built, with its line
-abbrev IsStop : RunOrder → List ℕ → Result (List (ℕ × ℕ)) ScriptPlace → Status → List ℕ → Type 0
-IsStop order image read status line = (script : List (ℕ × ℕ)) × (read ≡ Ok script) × (status ≡ Unbuilt) × ((cycle : ℕ) × (cia : ℕ) × (first_unbuilt (run_by order image script).boot order.cycles ≡ Some (cycle, cia)) × (line ≡ unbuilt_line cia))
-
--- behind its image a run is refused for its script, or for an instruction that isn't built
-bad-or-stop : (name : List ℕ) (order : RunOrder) (image : List ℕ) (read : Result (List (ℕ × ℕ)) ScriptPlace) (status : Status) (line : List ℕ) → with_script name read (λ script. verdict_on (run_by order image script)) ≡ Refuses status line → IsBad name read status line ⊎ IsStop order image read status line
-bad-or-stop name order image (Ok script) status line e =
-    let (same, stop) = run-stops-at (first_unbuilt (run_by order image script).boot order.cycles) (TextOf (run_by order image script)) status line e in
-    inr (script, refl, same, stop)
-bad-or-stop name order image (Err place) status line e = let same : status ≡ BadInput = cc in inl (place, refl, same, cc)
+-- behind its image a run is refused for its script alone
+only-bad : (name : List ℕ) (order : RunOrder) (image : List ℕ) (read : Result (List (ℕ × ℕ)) ScriptPlace) (status : Status) (line : List ℕ) → with_script name read (λ script. Writes (TextOf (run_by order image script))) ≡ Refuses status line → IsBad name read status line
+only-bad name order image (Ok script) status line e = cc
+only-bad name order image (Err place) status line e = let same : status ≡ BadInput = cc in (place, refl, same, cc)
 
 -- with ImageTooLarge the image of a run is longer than RAM
 run-too-large : (host : Change HostState) (order : RunOrder) (line : List ℕ) → ComesTo host (Run order) (Refuses ImageTooLarge line) → IsTooLong host order.image
 run-too-large host order line (contents, are, comes) = elim (long-or-so (first_of contents) _ ImageTooLarge line comes) [
   | inl (long, e) ↦ (first_of contents, first-is host.before.files (record { name = order.image; most = ram_size }) (script_files order.script) contents are, long)
-  | inr (short, e) ↦ elim (bad-or-stop _ order (first_of contents) _ ImageTooLarge line e) [
-    | inl (place, read, other, rest) ↦ cc
-    | inr (script, read, other, rest) ↦ cc
-  ]
+  | inr (short, e) ↦ let (place, read, other, rest) = only-bad _ order (first_of contents) _ ImageTooLarge line e in cc
 ]
 
 -- with ImageTooLarge the image of a disassembly is longer than RAM
@@ -152,34 +134,6 @@ source-refused name (Err place) status line e = let same : status ≡ BadInput =
 -- a source is never refused for length
 source-too-large : (host : Change HostState) (name line : List ℕ) → ComesTo host (Assemble name) (Refuses ImageTooLarge line) → ⊥
 source-too-large host name line (contents, are, comes) = let (other, rest) = source-refused name _ ImageTooLarge line comes in cc
-
--- with Unbuilt a run reaches an instruction that isn't built, and its address is told
-run-unbuilt : (host : Change HostState) (order : RunOrder) (line : List ℕ) → ComesTo host (Run order) (Refuses Unbuilt line) → (image : List ℕ) × (script : List (ℕ × ℕ)) × (cia : ℕ) × IsStart host order image script × ReachesUnbuilt (record { image = image; script = script }) order.cycles cia × (line ≡ unbuilt_line cia)
-run-unbuilt host order line (contents, are, comes) = elim (long-or-so (first_of contents) _ Unbuilt line comes) [
-  | inl (long, e) ↦ cc
-  | inr (short, e) ↦ elim (bad-or-stop _ order (first_of contents) _ Unbuilt line e) [
-    | inl (place, read, other, rest) ↦ cc
-    | inr (script, read, same, (cycle, cia, stop, told)) ↦ (
-      first_of contents,
-      script,
-      cia,
-      record {
-        image_is = first-is host.before.files (record { name = order.image; most = ram_size }) (script_files order.script) contents are;
-        image_fits = short;
-        script_is = script-from host order.script (text_by order.script contents) script (text-is host.before.files (record { name = order.image; most = ram_size }) order.script contents are) read;
-      },
-      (cycle, stop),
-      told,
-    )
-  ]
-]
-
--- a source or a disassembly is never refused as Unbuilt
-source-unbuilt : (host : Change HostState) (name line : List ℕ) → ComesTo host (Assemble name) (Refuses Unbuilt line) → ⊥
-source-unbuilt host name line (contents, are, comes) = let (other, rest) = source-refused name _ Unbuilt line comes in cc
-
-listing-unbuilt : (host : Change HostState) (name line : List ℕ) → ComesTo host (Disassemble name) (Refuses Unbuilt line) → ⊥
-listing-unbuilt host name line (contents, are, comes) = elim (long-or-so (first_of contents) _ Unbuilt line comes) [ inl (long, e) ↦ cc | inr (short, e) ↦ cc ]
 
 -- with BadInput a source is refused, and its place is told
 source-bad : (host : Change HostState) (name line : List ℕ) → ComesTo host (Assemble name) (Refuses BadInput line) → (source : List ℕ) × (place : Place) × IsContent host name source × (assembled source ≡ Err place) × (line ≡ bad_line name place.line place.column)
@@ -199,10 +153,9 @@ named-bad host (Some name) text line place is bad told = (name, place, refl, (te
 run-bad : (host : Change HostState) (order : RunOrder) (line : List ℕ) → ComesTo host (Run order) (Refuses BadInput line) → IsBadRun host order line
 run-bad host order line (contents, are, comes) = elim (long-or-so (first_of contents) _ BadInput line comes) [
   | inl (long, e) ↦ cc
-  | inr (short, e) ↦ elim (bad-or-stop (unwrap_or order.script []) order (first_of contents) (script_of (text_by order.script contents)) BadInput line e) [
-    | inl (place, bad, same, told) ↦ (first_of contents, first-is host.before.files (record { name = order.image; most = ram_size }) (script_files order.script) contents are, short, named-bad host order.script (text_by order.script contents) line place (text-is host.before.files (record { name = order.image; most = ram_size }) order.script contents are) bad told)
-    | inr (script, read, other, rest) ↦ cc
-  ]
+  | inr (short, e) ↦
+      let (place, bad, same, told) = only-bad (unwrap_or order.script []) order (first_of contents) (script_of (text_by order.script contents)) BadInput line e in
+      (first_of contents, first-is host.before.files (record { name = order.image; most = ram_size }) (script_files order.script) contents are, short, named-bad host order.script (text_by order.script contents) line place (text-is host.before.files (record { name = order.image; most = ram_size }) order.script contents are) bad told)
 ]
 
 -- a disassembly is never refused as BadInput
@@ -211,12 +164,8 @@ listing-bad : (host : Change HostState) (name line : List ℕ) → ComesTo host 
 listing-bad host name line (contents, are, comes) = elim (long-or-so (first_of contents) _ BadInput line comes) [ inl (long, e) ↦ cc | inr (short, e) ↦ cc ]
 
 -- what is written of a run that isn't refused is its text
-text-written : (o : Option (ℕ × ℕ)) (run : AskedRun) (output : Output) → unless_unbuilt o (TextOf run) ≡ Writes output → output ≡ TextOf run
-text-written None run output e = cc
-text-written (Some (cycle, cia)) run output e = cc
-
-script-written : (name : List ℕ) (order : RunOrder) (image : List ℕ) (read : Result (List (ℕ × ℕ)) ScriptPlace) (output : Output) → with_script name read (λ script. verdict_on (run_by order image script)) ≡ Writes output → (script : List (ℕ × ℕ)) × (read ≡ Ok script) × (output ≡ TextOf (run_by order image script))
-script-written name order image (Ok script) output e = (script, refl, text-written (first_unbuilt (run_by order image script).boot order.cycles) (run_by order image script) output e)
+script-written : (name : List ℕ) (order : RunOrder) (image : List ℕ) (read : Result (List (ℕ × ℕ)) ScriptPlace) (output : Output) → with_script name read (λ script. Writes (TextOf (run_by order image script))) ≡ Writes output → (script : List (ℕ × ℕ)) × (read ≡ Ok script) × (output ≡ TextOf (run_by order image script))
+script-written name order image (Ok script) output e = (script, refl, cc)
 script-written name order image (Err place) output e = cc
 
 run-written : (order : RunOrder) (image text : List ℕ) (output : Output) → verdict_by order image text ≡ Writes output → (length image ≤ 16777216) × ((script : List (ℕ × ℕ)) × (script_of text ≡ Ok script) × (output ≡ TextOf (run_by order image script)))
@@ -255,7 +204,7 @@ cut-run call order asked a =
     let (image, script, start, spells) = run-gives-text call.host order output text gives is in
     (image, script, text, start, spells, took)
 
--- ---- ImageTooLarge, Unbuilt and BadInput come only with their causes
+-- ---- ImageTooLarge and BadInput come only with their causes
 
 -- what an order that is refused comes to
 comes : (call : Call) (status : Status) (order : Order) → order_of call.words ≡ Some order → Refused call status → (line : List ℕ) × ComesTo call.host order (Refuses status line)
@@ -269,18 +218,6 @@ too-large-disassembly call image asked a = let (line, is) = comes call ImageTooL
 
 pub too-large-source : (call : Call) (source : List ℕ) → order_of call.words ≡ Some (Assemble source) → Answers call ImageTooLarge → ⊥
 too-large-source call source asked a = let (line, is) = comes call ImageTooLarge (Assemble source) asked a.says in source-too-large call.host source line is
-
-pub unbuilt : (call : Call) (order : RunOrder) → order_of call.words ≡ Some (Run order) → Answers call Unbuilt → (image : List ℕ) × (script : List (ℕ × ℕ)) × (cia : ℕ) × IsStart call.host order image script × ReachesUnbuilt (record { image = image; script = script }) order.cycles cia
-unbuilt call order asked a =
-    let (line, is) = comes call Unbuilt (Run order) asked a.says in
-    let (image, script, cia, start, stop, told) = run-unbuilt call.host order line is in
-    (image, script, cia, start, stop)
-
-pub unbuilt-disassembly : (call : Call) (image : List ℕ) → order_of call.words ≡ Some (Disassemble image) → Answers call Unbuilt → ⊥
-unbuilt-disassembly call image asked a = let (line, is) = comes call Unbuilt (Disassemble image) asked a.says in listing-unbuilt call.host image line is
-
-pub unbuilt-source : (call : Call) (source : List ℕ) → order_of call.words ≡ Some (Assemble source) → Answers call Unbuilt → ⊥
-unbuilt-source call source asked a = let (line, is) = comes call Unbuilt (Assemble source) asked a.says in source-unbuilt call.host source line is
 
 pub bad-input : (call : Call) (name : List ℕ) → order_of call.words ≡ Some (Assemble name) → Answers call BadInput → (source : List ℕ) × (place : Place) × IsContent call.host name source × (assembled source ≡ Err place)
 bad-input call name asked a =
@@ -297,7 +234,7 @@ bad-run call order asked a =
 pub bad-disassembly : (call : Call) (image : List ℕ) → order_of call.words ≡ Some (Disassemble image) → Answers call BadInput → ⊥
 bad-disassembly call image asked a = let (line, is) = comes call BadInput (Disassemble image) asked a.says in listing-bad call.host image line is
 
--- ---- ImageTooLarge, Unbuilt and BadInput always come with their causes, but for a call of the host that failed and for want of memory
+-- ---- ImageTooLarge and BadInput always come with their causes, but for a call of the host that failed and for want of memory
 
 pub always-too-large : (call : Call) (status : Status) (order : RunOrder) (told : List ℕ → Option (List ℕ)) → Asks call (Run order) told → 16777216 < length (content_of told order.image) → Answers call status → (status ≡ ImageTooLarge) ⊎ IsUnanswered call status
 always-too-large call status order told asks long a = a.exactly (Run order) told ImageTooLarge too_large_line asks (too_long (content_of told order.image) _ long)
@@ -316,13 +253,10 @@ text-told told first None = refl
 text-told told first (Some name) = refl
 
 -- what a run comes to with these files, whose image fits and whose script is read
-comes-to : (order : RunOrder) (told : List ℕ → Option (List ℕ)) (script : List (ℕ × ℕ)) → length (content_of told order.image) ≤ 16777216 → script_of (script_text told order.script) ≡ Ok script → verdict_with told (Run order) ≡ verdict_on (run_by order (content_of told order.image) script)
+comes-to : (order : RunOrder) (told : List ℕ → Option (List ℕ)) (script : List (ℕ × ℕ)) → length (content_of told order.image) ≤ 16777216 → script_of (script_text told order.script) ≡ Ok script → verdict_with told (Run order) ≡ Writes (TextOf (run_by order (content_of told order.image) script))
 comes-to order told script short read =
     ap (verdict_by order (content_of told order.image)) (text-told told (record { name = order.image; most = ram_size }) order.script)
     ∙ starts order (content_of told order.image) (script_text told order.script) script short read
-
-pub always-unbuilt : (call : Call) (status : Status) (order : RunOrder) (told : List ℕ → Option (List ℕ)) (script : List (ℕ × ℕ)) (cia : ℕ) → Asks call (Run order) told → length (content_of told order.image) ≤ 16777216 → script_of (script_text told order.script) ≡ Ok script → ReachesUnbuilt (record { image = content_of told order.image; script = script }) order.cycles cia → Answers call status → (status ≡ Unbuilt) ⊎ IsUnanswered call status
-always-unbuilt call status order told script cia asks short read (cycle, stop) a = a.exactly (Run order) told Unbuilt (unbuilt_line cia) asks (comes-to order told script short read ∙ ap (λ (o : Option (ℕ × ℕ)). unless_unbuilt o (TextOf (run_by order (content_of told order.image) script))) stop)
 
 pub always-bad-script : (call : Call) (status : Status) (order : RunOrder) (told : List ℕ → Option (List ℕ)) (name : List ℕ) (place : ScriptPlace) → Asks call (Run order) told → length (content_of told order.image) ≤ 16777216 → order.script ≡ Some name → script_of (content_of told name) ≡ Err place → Answers call status → (status ≡ BadInput) ⊎ IsUnanswered call status
 always-bad-script call status order told name place asks short named bad a = a.exactly (Run order) told BadInput (bad_line name place.line place.column) asks (
@@ -334,8 +268,8 @@ always-bad-input call status source told place asks bad a = a.exactly (Assemble 
 
 -- ---- an order that isn't refused is done where no call failed, unless memory is wanting
 
-pub complete-run : (call : Call) (status : Status) (order : RunOrder) (told : List ℕ → Option (List ℕ)) (script : List (ℕ × ℕ)) → Asks call (Run order) told → length (content_of told order.image) ≤ 16777216 → script_of (script_text told order.script) ≡ Ok script → first_unbuilt (record { image = content_of told order.image; script = script }) order.cycles ≡ None → ¬ (Rose call.host.before.faults call.host.after.faults) → ¬ (Rose call.out.before.faults call.out.after.faults) → Answers call status → (status ≡ Done) ⊎ (status ≡ NoMemory)
-complete-run call status order told script asks short read built host out a = a.complete (Run order) told (TextOf (run_by order (content_of told order.image) script)) asks (comes-to order told script short read ∙ ap (λ (o : Option (ℕ × ℕ)). unless_unbuilt o (TextOf (run_by order (content_of told order.image) script))) built) host out
+pub complete-run : (call : Call) (status : Status) (order : RunOrder) (told : List ℕ → Option (List ℕ)) (script : List (ℕ × ℕ)) → Asks call (Run order) told → length (content_of told order.image) ≤ 16777216 → script_of (script_text told order.script) ≡ Ok script → ¬ (Rose call.host.before.faults call.host.after.faults) → ¬ (Rose call.out.before.faults call.out.after.faults) → Answers call status → (status ≡ Done) ⊎ (status ≡ NoMemory)
+complete-run call status order told script asks short read host out a = a.complete (Run order) told (TextOf (run_by order (content_of told order.image) script)) asks (comes-to order told script short read) host out
 
 pub complete-source : (call : Call) (status : Status) (source : List ℕ) (told : List ℕ → Option (List ℕ)) (bytes : List ℕ) → Asks call (Assemble source) told → assembled (content_of told source) ≡ Ok bytes → ¬ (Rose call.host.before.faults call.host.after.faults) → ¬ (Rose call.out.before.faults call.out.after.faults) → Answers call status → (status ≡ Done) ⊎ (status ≡ NoMemory)
 complete-source call status source told bytes asks ok host out a = a.complete (Assemble source) told (Bytes bytes) asks (ap (unless_bad source) ok) host out

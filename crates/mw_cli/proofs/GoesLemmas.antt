@@ -2,11 +2,10 @@
 use Rattle.std.proofs.Common.{◌≡◌, ℕ, ◌≤◌, inl, List, [], ◌∷◌, length, Option, Some, Result, Ok, Err, IfErr, IfSome, refl, sym, subst, arith, append-nil}
 use Rattle.std.specs.Option.{option_map_or}
 use Rattle.mw_io.specs.Outside.{HostState, RoseBy, IsReadOn, content_of}
-use Rattle.mw_isa.specs.Start.{Boot}
 use Rattle.mw_cli.specs.declared.status.Status.{Status}
 use Rattle.mw_cli.specs.declared.status.Status.TheVariants.{Done, ImageTooLarge}
 use Rattle.mw_cli.specs.declared.refusal.Refusal.{Refusal}
-use Rattle.mw_cli.specs.declared.refusal.Refusal.TheVariants.{Unreadable, Unwritable, TooLarge, Bad, OutOfMemory, NotBuilt}
+use Rattle.mw_cli.specs.declared.refusal.Refusal.TheVariants.{Unreadable, Unwritable, TooLarge, Bad, OutOfMemory}
 use Rattle.mw_uart.specs.Script.{text_limit}
 use Rattle.mw_cli.specs.Command.{Wanted, Order, script_files, files_of, files_by, order_of}
 use Rattle.mw_cli.specs.Numbers.{status_of}
@@ -44,23 +43,21 @@ goes-on host files status other (opened, others, is, opens, far) = (
 )
 
 -- a run that has no text isn't one of an image that is too long
-run-other : (boot : Boot) (n : ℕ) (refusal : Refusal) → IsRunRefusal boot n refusal → status_of refusal ≡ ImageTooLarge → ⊥
-run-other boot n (Unreadable which) cause e = absurd cause
-run-other boot n TooLarge cause e = absurd cause
-run-other boot n (NotBuilt cia) cause e = cc
-run-other boot n (Bad name line column) cause e = absurd cause
-run-other boot n Unwritable cause e = absurd cause
-run-other boot n OutOfMemory cause e = cc
+run-other : (refusal : Refusal) → IsRunRefusal refusal → status_of refusal ≡ ImageTooLarge → ⊥
+run-other (Unreadable which) cause e = absurd cause
+run-other TooLarge cause e = absurd cause
+run-other (Bad name line column) cause e = absurd cause
+run-other Unwritable cause e = absurd cause
+run-other OutOfMemory cause e = cc
 
-pub goes-run : (host : Change HostState) (files : List Wanted) (boot : Boot) (n : ℕ) (r : Result (List ℕ) Refusal) → IfErr r (IsRunRefusal boot n) → Goes host files Done → Goes host files (ending r)
-goes-run host files boot n (Ok text) cause goes = goes
-goes-run host files boot n (Err refusal) cause goes = goes-on host files (status_of refusal) (run-other boot n refusal cause) goes
+pub goes-run : (host : Change HostState) (files : List Wanted) (r : Result (List ℕ) Refusal) → IfErr r IsRunRefusal → Goes host files Done → Goes host files (ending r)
+goes-run host files (Ok text) cause goes = goes
+goes-run host files (Err refusal) cause goes = goes-on host files (status_of refusal) (run-other refusal cause) goes
 
 -- a script that isn't there isn't refused as ImageTooLarge
 pub script-other : (host : Change HostState) (name : List ℕ) (refusal : Refusal) → IsScriptRefusal host name refusal → status_of refusal ≡ ImageTooLarge → ⊥
 script-other host name (Unreadable which) cause e = cc
 script-other host name TooLarge cause e = absurd cause
-script-other host name (NotBuilt cia) cause e = absurd cause
 script-other host name (Bad which line column) cause e = cc
 script-other host name Unwritable cause e = absurd cause
 script-other host name OutOfMemory cause e = cc

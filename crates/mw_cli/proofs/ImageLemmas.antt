@@ -1,5 +1,5 @@
 -- What the program's main function answers of a run, told without a boot and without a stop.
-use Rattle.std.proofs.Common.{◌≡◌, ℕ, List, Option, Some, None, IsSomeAnd, option_map, sym, ap, ◌∙◌}
+use Rattle.std.proofs.Common.{◌≡◌, ℕ, List, Option, Some, IsSomeAnd, option_map}
 use Rattle.std.specs.List.{range_with_len}
 use Rattle.mw_isa.specs.declared.access.Span.{Span}
 use Rattle.mw_isa.specs.State.{brought}
@@ -7,11 +7,10 @@ use Rattle.mw_isa.specs.Replay.{cycles_of, replay}
 use Rattle.mw_isa.specs.Text.{text_of}
 use Rattle.mw_isa.specs.Reading.{events_of, end_of}
 use Rattle.mw_isa.proofs.RunLaws.{has_some, run-spelled}
-use Rattle.mw_board.proofs.ImageLemmas.{start_with, RunsImage, unbuilt_with, runs-image, unbuilt-image}
+use Rattle.mw_board.proofs.ImageLemmas.{start_with, RunsImage, runs-image}
 use Rattle.mw_cli.specs.declared.status.Status.TheVariants.{Done, WriteFault}
 use Rattle.mw_cli.specs.Command.{RunOrder, Run, order_of}
 use Rattle.mw_cli.specs.Headline.{run_of, Prints, SpellsRun}
-use Rattle.mw_cli.specs.Verdict.{TextOf, run_by, verdict_on, unless_unbuilt}
 use Rattle.mw_cli.specs.Outside.{Took, TookFront}
 use Rattle.mw_cli.specs.Answers.{Call, Answers}
 use Rattle.mw_cli.specs.Stages.{IsStart}
@@ -24,8 +23,7 @@ SpellsImage image script n dump text =
     IsSomeAnd (end_of text) (λ end. IsSomeAnd (option_map (brought n) (replay (events_of text) (start_with image script))) (λ last.
     RunsImage image script n (events_of text) end last
     × (text ≡ text_of (events_of text) end last dump)
-    × (cycles_of (events_of text) ≡ range_with_len 0 n)
-    × (unbuilt_with image script n ≡ None)))
+    × (cycles_of (events_of text) ≡ range_with_len 0 n)))
 
 -- a text that spells a run of an image and a script spells it without a boot
 pub spells-image : (image : List ℕ) (script : List (ℕ × ℕ)) (n : ℕ) (dump : Option Span) (text : List ℕ) → SpellsRun (run_of image script n dump) text → SpellsImage image script n dump text
@@ -33,12 +31,7 @@ spells-image image script n dump text spells =
     run-spelled (record { image = image; script = script }) n text (Prints (run_of image script n dump) text) spells (λ end last s runs prints.
     let image_runs : RunsImage image script n (events_of text) end last = runs-image image script n (events_of text) end last runs in
     has_some (end_of text) end _ s.end_is (has_some (option_map (brought n) (replay (events_of text) (start_with image script))) last _ image_runs.replayed
-    (image_runs, prints.whole, prints.each_cycle, sym (unbuilt-image image script n) ∙ prints.built)))
-
--- what a run comes to, by its image and its script alone
-pub verdict-image : (order : RunOrder) (image : List ℕ) (script : List (ℕ × ℕ)) → verdict_on (run_by order image script) ≡ unless_unbuilt (unbuilt_with image script order.cycles) (TextOf (run_by order image script))
-verdict-image order image script =
-    ap (λ (o : Option (ℕ × ℕ)). unless_unbuilt o (TextOf (run_by order image script))) (unbuilt-image image script order.cycles)
+    (image_runs, prints.whole, prints.each_cycle)))
 
 -- with Done out took a text that spells a run of the image and the script
 pub done-image : (call : Call) (order : RunOrder) → order_of call.words ≡ Some (Run order) → Answers call Done → (image : List ℕ) × (script : List (ℕ × ℕ)) × (text : List ℕ) × IsStart call.host order image script × SpellsImage image script order.cycles order.dump text × Took call.out text

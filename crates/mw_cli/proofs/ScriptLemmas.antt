@@ -8,7 +8,7 @@ use Rattle.mw_uart.proofs.Laws.{script_of-long}
 use Rattle.mw_cli.specs.declared.status.Status.TheVariants.{Done, ReadFault}
 use Rattle.mw_cli.specs.declared.refusal.Refusal.{Refusal}
 use Rattle.mw_cli.specs.Numbers.{status_of}
-use Rattle.mw_cli.specs.declared.refusal.Refusal.TheVariants.{Unreadable, Unwritable, TooLarge, Bad, OutOfMemory, NotBuilt}
+use Rattle.mw_cli.specs.declared.refusal.Refusal.TheVariants.{Unreadable, Unwritable, TooLarge, Bad, OutOfMemory}
 use Rattle.mw_cli.specs.Outside.{Change}
 use Rattle.mw_cli.specs.Stages.{ending, IsFront, IsReadRefusal, IsTextRefusal, IsScript, IsScriptRefusal}
 use Rattle.mw_cli.proofs.FileLemmas.{Files}
@@ -32,7 +32,6 @@ script-gives (Some told) name bytes r front e = (content_of told name, refl, sym
 pub script-unread : (host : Change HostState) (name : List ℕ) (refusal : Refusal) → IsReadRefusal host name refusal → IsScriptRefusal host name refusal
 script-unread host name (Unreadable which) cause = cause
 script-unread host name TooLarge cause = cause
-script-unread host name (NotBuilt cia) cause = cause
 script-unread host name (Bad which line column) cause = absurd cause
 script-unread host name Unwritable cause = cause
 script-unread host name OutOfMemory cause = cause
@@ -45,7 +44,6 @@ script-told host name bytes text (Err refusal) is front e = tt
 refusal-told : (host : Change HostState) (name bytes text : List ℕ) (refusal : Refusal) → text ≡ bytes → IsFront host (record { name = name; most = 1048576 }) bytes → IsTextRefusal name text refusal → IsScriptRefusal host name refusal
 refusal-told host name bytes text (Unreadable which) is front e = absurd e
 refusal-told host name bytes text TooLarge is front e = absurd e
-refusal-told host name bytes text (NotBuilt cia) is front e = absurd e
 refusal-told host name bytes text (Bad which line column) is front (same, e) = (same, script-gives host.before.files name bytes (Err (record { line = line; column = column })) front (ap script_of (sym is) ∙ e))
 refusal-told host name bytes text Unwritable is front e = absurd e
 refusal-told host name bytes text OutOfMemory is front e = tt
@@ -58,7 +56,6 @@ script-refused host name bytes text (Err refusal) is front e = refusal-told host
 text-read : (name text : List ℕ) (refusal : Refusal) → IsTextRefusal name text refusal → status_of refusal ≡ ReadFault → ⊥
 text-read name text (Unreadable which) cause e = absurd cause
 text-read name text TooLarge cause e = absurd cause
-text-read name text (NotBuilt cia) cause e = absurd cause
 text-read name text (Bad which line column) cause e = cc
 text-read name text Unwritable cause e = absurd cause
 text-read name text OutOfMemory cause e = cc

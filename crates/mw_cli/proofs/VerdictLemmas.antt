@@ -5,13 +5,12 @@ use Rattle.mw_io.specs.Outside.{HostState, Counts, RoseBy, content_of}
 use Rattle.mw_asm.specs.declared.fault.Place.{Place}
 use Rattle.mw_asm.specs.Assembled.{assembled}
 use Rattle.mw_asm.specs.Disassembly.{disassembly}
-use Rattle.mw_cli.specs.declared.status.Status.TheVariants.{Done, ReadFault, ImageTooLarge, BadInput, Unbuilt}
+use Rattle.mw_cli.specs.declared.status.Status.TheVariants.{Done, ReadFault, ImageTooLarge, BadInput}
 use Rattle.mw_cli.specs.declared.refusal.Refusal.{Refusal}
-use Rattle.mw_cli.specs.declared.refusal.Refusal.TheVariants.{Unreadable, Unwritable, TooLarge, Bad, OutOfMemory, NotBuilt}
+use Rattle.mw_cli.specs.declared.refusal.Refusal.TheVariants.{Unreadable, Unwritable, TooLarge, Bad, OutOfMemory}
 use Rattle.mw_cli.specs.Command.{RunOrder, Order, Run, Assemble, Disassemble, Wanted, files_of, script_files}
-use Rattle.mw_isa.specs.Start.{Boot}
 use Rattle.mw_cli.specs.Headline.{SpellsRun}
-use Rattle.mw_cli.specs.Verdict.{TextOf, Bytes, Verdict, Writes, Refuses, first_of, text_by, run_by, verdict_on, verdict_by, verdict_of, with_script, unless_too_large, unless_unbuilt, unless_bad, too_large_line, unbuilt_line, bad_line}
+use Rattle.mw_cli.specs.Verdict.{TextOf, Bytes, Verdict, Writes, Refuses, first_of, text_by, run_by, verdict_by, verdict_of, with_script, unless_too_large, unless_bad, too_large_line, bad_line}
 use Rattle.mw_cli.specs.Outside.{Change, change, contents_of}
 use Rattle.mw_cli.specs.Answers.{ComesTo, Gives, IsUnread}
 use Rattle.mw_cli.specs.Stages.{ending, IsContent, IsAbsent, IsReadRefusal, IsLoadRefusal, IsScriptOf, IsStart, IsScriptRefusal, IsRunRefusal, GivesNothing}
@@ -20,7 +19,6 @@ use Rattle.mw_uart.specs.Script.{Place as ScriptPlace, script_of}
 use Rattle.mw_uart.proofs.Laws.{script_of-empty}
 use Rattle.mw_cli.proofs.GoesLemmas.{rose-twice}
 use Rattle.mw_cli.proofs.FileLemmas.{Files}
-use Rattle.mw_cli.proofs.RunLemmas.{spelled}
 
 -- an image that fits RAM leaves the verdict
 pub fits : (image : List ℕ) (verdict : Verdict) → length image ≤ 16777216 → unless_too_large image verdict ≡ verdict
@@ -75,17 +73,16 @@ text-from host None script is = ([], refl, is)
 text-from host (Some name) script is = is
 
 -- what a run comes to whose image fits and whose script is read
-pub starts : (order : RunOrder) (image text : List ℕ) (script : List (ℕ × ℕ)) → length image ≤ 16777216 → script_of text ≡ Ok script → verdict_by order image text ≡ verdict_on (run_by order image script)
+pub starts : (order : RunOrder) (image text : List ℕ) (script : List (ℕ × ℕ)) → length image ≤ 16777216 → script_of text ≡ Ok script → verdict_by order image text ≡ Writes (TextOf (run_by order image script))
 starts order image text script short read =
     fits image _ short
-    ∙ ap (λ (r : Result (List (ℕ × ℕ)) ScriptPlace). with_script (unwrap_or order.script []) r (λ s. verdict_on (run_by order image s))) read
+    ∙ ap (λ (r : Result (List (ℕ × ℕ)) ScriptPlace). with_script (unwrap_or order.script []) r (λ s. Writes (TextOf (run_by order image s)))) read
 
 -- a run gives its text
 gives-run : (host : Change HostState) (order : RunOrder) (image : List ℕ) (script : List (ℕ × ℕ)) (text : List ℕ) → IsStart host order image script → SpellsRun (run_by order image script) text → Gives host (Run order) text
 gives-run host order image script text start spells =
-    let facts = spelled (run_by order image script) text spells in
     let (source, is, read) = text-from host order.script script start.script_is in
-    (TextOf (run_by order image script), comes-run host order image source (Writes (TextOf (run_by order image script))) start.image_is is (starts order image source script start.image_fits read ∙ ap (λ (o : Option (ℕ × ℕ)). unless_unbuilt o (TextOf (run_by order image script))) facts.1), spells)
+    (TextOf (run_by order image script), comes-run host order image source (Writes (TextOf (run_by order image script))) start.image_is is (starts order image source script start.image_fits read), spells)
 
 -- a source gives its bytes
 pub gives-source : (host : Change HostState) (name bytes : List ℕ) → (source : List ℕ) × IsContent host name source × (assembled source ≡ Ok bytes) → Gives host (Assemble name) bytes
@@ -104,7 +101,6 @@ unread host order name which first opened e absent =
 pub run-unread : (host : Change HostState) (order : RunOrder) (refusal : Refusal) → RoseBy 1 host.before.opened host.after.opened → IsLoadRefusal host order.image refusal → GivesNothing host (Run order) refusal
 run-unread host order (Unreadable which) opened (e, absent) = unread host (Run order) order.image which.now refl opened e absent
 run-unread host order TooLarge opened (image, is, long) = comes-long host order image is long
-run-unread host order (NotBuilt cia) opened cause = absurd cause
 run-unread host order (Bad name line column) opened cause = absurd cause
 run-unread host order Unwritable opened cause = absurd cause
 run-unread host order OutOfMemory opened cause = tt
@@ -113,7 +109,6 @@ run-unread host order OutOfMemory opened cause = tt
 pub listing-unread : (host : Change HostState) (name : List ℕ) (refusal : Refusal) → RoseBy 1 host.before.opened host.after.opened → IsLoadRefusal host name refusal → GivesNothing host (Disassemble name) refusal
 listing-unread host name (Unreadable which) opened (e, absent) = unread host (Disassemble name) name which.now refl opened e absent
 listing-unread host name TooLarge opened (image, is, long) = comes-listing host name image (Refuses ImageTooLarge too_large_line) is (too_long image _ long)
-listing-unread host name (NotBuilt cia) opened cause = absurd cause
 listing-unread host name (Bad which line column) opened cause = absurd cause
 listing-unread host name Unwritable opened cause = absurd cause
 listing-unread host name OutOfMemory opened cause = tt
@@ -122,7 +117,6 @@ listing-unread host name OutOfMemory opened cause = tt
 pub source-unread : (host : Change HostState) (name : List ℕ) (refusal : Refusal) → RoseBy 1 host.before.opened host.after.opened → IsReadRefusal host name refusal → GivesNothing host (Assemble name) refusal
 source-unread host name (Unreadable which) opened (e, absent) = unread host (Assemble name) name which.now refl opened e absent
 source-unread host name TooLarge opened cause = absurd cause
-source-unread host name (NotBuilt cia) opened cause = absurd cause
 source-unread host name (Bad which line column) opened cause = absurd cause
 source-unread host name Unwritable opened cause = absurd cause
 source-unread host name OutOfMemory opened cause = tt
@@ -157,7 +151,7 @@ second-name image named name which e w = ap (λ (n : Option (List ℕ)). option_
 pub refused : (order : RunOrder) (image name text : List ℕ) (place : ScriptPlace) → length image ≤ 16777216 → order.script ≡ Some name → script_of text ≡ Err place → verdict_by order image text ≡ Refuses BadInput (bad_line name place.line place.column)
 refused order image name text place short e bad =
     fits image _ short
-    ∙ ap₂ (λ (n : List ℕ) (r : Result (List (ℕ × ℕ)) ScriptPlace). with_script n r (λ s. verdict_on (run_by order image s))) (ap (λ (n : Option (List ℕ)). unwrap_or n []) e) bad
+    ∙ ap₂ (λ (n : List ℕ) (r : Result (List (ℕ × ℕ)) ScriptPlace). with_script n r (λ s. Writes (TextOf (run_by order image s)))) (ap (λ (n : Option (List ℕ)). unwrap_or n []) e) bad
 
 comes-bad : (host : Change HostState) (order : RunOrder) (image name which text : List ℕ) (place : ScriptPlace) → IsContent host order.image image → length image ≤ 16777216 → order.script ≡ Some name → which ≡ name → IsText host.before.files order.script text → script_of text ≡ Err place → ComesTo host (Run order) (Refuses BadInput (bad_line which place.line place.column))
 comes-bad host order image name which text place is short e w t bad =
@@ -173,31 +167,27 @@ pub run-unscripted : (before middle after : HostState) (order : RunOrder) (image
 run-unscripted before middle after order image name (Unreadable which) same sound first second e is short (w, absent) =
     (1, second-name (record { name = order.image; most = ram_size }) order.script name which.now e w, rose-twice before.opened middle.opened after.opened first second, absent-since before middle after name which.now same sound w absent)
 run-unscripted before middle after order image name TooLarge same sound first second e is short cause = absurd cause
-run-unscripted before middle after order image name (NotBuilt cia) same sound first second e is short cause = absurd cause
 run-unscripted before middle after order image name (Bad which line column) same sound first second e is short (w, (text, t, bad)) =
     comes-bad (change before after) order image name which.now text (record { line = line; column = column }) is short e w (text-since before.files middle.files order.script name text same e t) bad
 run-unscripted before middle after order image name Unwritable same sound first second e is short cause = absurd cause
 run-unscripted before middle after order image name OutOfMemory same sound first second e is short cause = tt
 
 -- why a run has no text
-run-stops : (host : Change HostState) (order : RunOrder) (image : List ℕ) (script : List (ℕ × ℕ)) (refusal : Refusal) → IsStart host order image script → IsRunRefusal (record { image = image; script = script }) order.cycles refusal → GivesNothing host (Run order) refusal
-run-stops host order image script (Unreadable which) start cause = absurd cause
-run-stops host order image script TooLarge start cause = absurd cause
-run-stops host order image script (NotBuilt cia) start (cycle, e) =
-    let (text, is, read) = text-from host order.script script start.script_is in
-    comes-run host order image text (Refuses Unbuilt (unbuilt_line cia)) start.image_is is (starts order image text script start.image_fits read ∙ ap (λ (o : Option (ℕ × ℕ)). unless_unbuilt o (TextOf (run_by order image script))) e)
-run-stops host order image script (Bad name line column) start cause = absurd cause
-run-stops host order image script Unwritable start cause = absurd cause
-run-stops host order image script OutOfMemory start cause = tt
+run-stops : (host : Change HostState) (order : RunOrder) (refusal : Refusal) → IsRunRefusal refusal → GivesNothing host (Run order) refusal
+run-stops host order (Unreadable which) cause = absurd cause
+run-stops host order TooLarge cause = absurd cause
+run-stops host order (Bad name line column) cause = absurd cause
+run-stops host order Unwritable cause = absurd cause
+run-stops host order OutOfMemory cause = tt
 
 -- what a run gives, and why it gives nothing
 pub run-gives : (host : Change HostState) (order : RunOrder) (image : List ℕ) (script : List (ℕ × ℕ)) (r : Result (List ℕ) Refusal) → IsStart host order image script → IfOk r (SpellsRun (run_by order image script)) → IfOk r (Gives host (Run order))
 run-gives host order image script (Ok text) start spells = gives-run host order image script text start spells
 run-gives host order image script (Err refusal) start spells = tt
 
-pub run-refused : (host : Change HostState) (order : RunOrder) (image : List ℕ) (script : List (ℕ × ℕ)) (r : Result (List ℕ) Refusal) → IsStart host order image script → IfErr r (IsRunRefusal (record { image = image; script = script }) order.cycles) → IfErr r (GivesNothing host (Run order))
-run-refused host order image script (Ok text) start cause = tt
-run-refused host order image script (Err refusal) start cause = run-stops host order image script refusal start cause
+pub run-refused : (host : Change HostState) (order : RunOrder) (r : Result (List ℕ) Refusal) → IfErr r IsRunRefusal → IfErr r (GivesNothing host (Run order))
+run-refused host order (Ok text) cause = tt
+run-refused host order (Err refusal) cause = run-stops host order refusal cause
 
 -- a count that stays, where its cause didn't come
 pub calm : (before after : ℕ) (came : Type 0) → after ≡ before → ¬ came → Counts before after came
@@ -208,14 +198,13 @@ pub stayed : (before after : ℕ) → Counts before after (Done ≡ ReadFault) �
 stayed before after counts = counts.stays (λ (e : Done ≡ ReadFault). cc)
 
 -- a run that has no text didn't fail to read
-run-read : (boot : Boot) (n : ℕ) (refusal : Refusal) → IsRunRefusal boot n refusal → ending {T = List ℕ} (Err refusal) ≡ ReadFault → ⊥
-run-read boot n (Unreadable which) cause e = absurd cause
-run-read boot n TooLarge cause e = absurd cause
-run-read boot n (NotBuilt cia) cause e = cc
-run-read boot n (Bad name line column) cause e = absurd cause
-run-read boot n Unwritable cause e = absurd cause
-run-read boot n OutOfMemory cause e = cc
+run-read : (refusal : Refusal) → IsRunRefusal refusal → ending {T = List ℕ} (Err refusal) ≡ ReadFault → ⊥
+run-read (Unreadable which) cause e = absurd cause
+run-read TooLarge cause e = absurd cause
+run-read (Bad name line column) cause e = absurd cause
+run-read Unwritable cause e = absurd cause
+run-read OutOfMemory cause e = cc
 
-pub run-calm : (boot : Boot) (n before after : ℕ) (r : Result (List ℕ) Refusal) → after ≡ before → IfErr r (IsRunRefusal boot n) → Counts before after (ending r ≡ ReadFault)
-run-calm boot n before after (Ok text) e cause = calm before after (Done ≡ ReadFault) e (λ (same : Done ≡ ReadFault). cc)
-run-calm boot n before after (Err refusal) e cause = calm before after (ending {T = List ℕ} (Err refusal) ≡ ReadFault) e (run-read boot n refusal cause)
+pub run-calm : (before after : ℕ) (r : Result (List ℕ) Refusal) → after ≡ before → IfErr r IsRunRefusal → Counts before after (ending r ≡ ReadFault)
+run-calm before after (Ok text) e cause = calm before after (Done ≡ ReadFault) e (λ (same : Done ≡ ReadFault). cc)
+run-calm before after (Err refusal) e cause = calm before after (ending {T = List ℕ} (Err refusal) ≡ ReadFault) e (run-read refusal cause)

@@ -4,7 +4,7 @@ use Rattle.std.specs.Process.{exit_status}
 use Rattle.std.specs.declared.process.ExitCode.{ExitCode}
 use Rattle.mw_io.specs.Outside.{HostState, SinkState, Counts, Rose, RoseBy}
 use Rattle.mw_cli.specs.declared.status.Status.{Status}
-use Rattle.mw_cli.specs.declared.status.Status.TheVariants.{Done, Usage, ReadFault, WriteFault, ImageTooLarge, BadInput, NoMemory, Unbuilt}
+use Rattle.mw_cli.specs.declared.status.Status.TheVariants.{Done, Usage, ReadFault, WriteFault, ImageTooLarge, BadInput, NoMemory}
 use Rattle.mw_cli.specs.Command.{Wanted, Order, files_of, files_by, order_of}
 use Rattle.mw_cli.specs.Verdict.{Output, IsOutput, Verdict, Writes, Refuses, status_by, verdict_of}
 use Rattle.mw_cli.specs.Outside.{Change, contents_of, AreContents, Opens, TookNothing, Took, TookFront, TookUnlessFault}
@@ -73,7 +73,6 @@ Says call ReadFault = OnOrder call (λ order. (name : List ℕ) × IsUnread call
 Says call WriteFault = OnOrder call (CutShort call.host call.out) × TookUnlessFault call.err unwritten_line
 Says call ImageTooLarge = Refused call ImageTooLarge
 Says call BadInput = Refused call BadInput
-Says call Unbuilt = Refused call Unbuilt
 Says call NoMemory = (TookNothing call.out ⊎ (Rose call.out.before.wants call.out.after.wants × OnOrder call (CutShort call.host call.out))) × TookUnlessFault call.err no_memory_line
 
 -- which counts rise with a status: the host's faults with ReadFault and no other, out's with WriteFault and no other,

@@ -1,7 +1,7 @@
 -- A text that a run prints: the events and the end that stand in it, and the last state that the machine gives from
 -- them, are a run of what the board was started with, and the text is theirs, with the dump of the last state's RAM that
 -- is asked for, and no more.
-use Rattle.std.specs.Prelude.{ℕ, ◌≡◌, List, Option, None}
+use Rattle.std.specs.Prelude.{ℕ, ◌≡◌, List, Option}
 use Rattle.std.specs.List.{range_with_len}
 use Rattle.mw_isa.specs.declared.access.Span.{Span}
 use Rattle.mw_isa.specs.declared.event.Event.{Event}
@@ -9,7 +9,6 @@ use Rattle.mw_isa.specs.declared.event.End.{End}
 use Rattle.mw_isa.specs.State.{State}
 use Rattle.mw_isa.specs.Start.{Boot}
 use Rattle.mw_isa.specs.Replay.{cycles_of}
-use Rattle.mw_isa.specs.Unbuilt.{first_unbuilt}
 use Rattle.mw_isa.specs.Text.{text_of}
 use Rattle.mw_isa.specs.Reading.{OnRun}
 
@@ -27,10 +26,8 @@ run_of image script cycles dump = record { boot = record { image = image; script
 pub record Prints (run : AskedRun) (text : List ℕ) (events : List Event) (end : End) (last : State) : Type 0 where
   -- the text is that of the run's events and end, with the dump that is asked for, and no more
   pub whole : text ≡ text_of events end last run.dump
-  -- on the plain board event k has cycle k
+  -- event k has cycle k
   pub each_cycle : cycles_of events ≡ range_with_len 0 run.cycles
-  -- the run meets no instruction that isn't built
-  pub built : first_unbuilt run.boot run.cycles ≡ None
 
 -- the text is printed of this run, whose events and end stand in it
 abbrev pub SpellsRun : AskedRun → List ℕ → Type 0

@@ -3,14 +3,12 @@ use Rattle.std.specs.Prelude.{ℕ, ◌+◌, ◌≡◌, ◌<◌, ◌≤◌, ◌�
 use Rattle.mw_bus.specs.Memory.{ram_size}
 use Rattle.mw_io.specs.Outside.{HostState, SinkState, Rose, content_of}
 use Rattle.mw_uart.specs.Script.{script_of}
-use Rattle.mw_isa.specs.Start.{Boot}
-use Rattle.mw_isa.specs.Unbuilt.{first_unbuilt}
 use Rattle.mw_cli.specs.declared.status.Status.{Status}
 use Rattle.mw_cli.specs.declared.status.Status.TheVariants.{Done}
 use Rattle.mw_cli.specs.declared.refusal.Refusal.{Refusal}
-use Rattle.mw_cli.specs.declared.refusal.Refusal.TheVariants.{Unreadable, Unwritable, TooLarge, Bad, OutOfMemory, NotBuilt}
+use Rattle.mw_cli.specs.declared.refusal.Refusal.TheVariants.{Unreadable, Unwritable, TooLarge, Bad, OutOfMemory}
 use Rattle.mw_cli.specs.Command.{RunOrder, Wanted, Order}
-use Rattle.mw_cli.specs.Verdict.{Refuses, too_large_line, unbuilt_line, bad_line}
+use Rattle.mw_cli.specs.Verdict.{Refuses, too_large_line, bad_line}
 use Rattle.mw_cli.specs.Outside.{Change, TookNothing, TookFront}
 use Rattle.mw_cli.specs.Answers.{ComesTo, CutShort, IsUnread, unread_line, unwritten_line, no_memory_line}
 use Rattle.mw_cli.specs.Numbers.{status_of}
@@ -19,7 +17,6 @@ use Rattle.mw_cli.specs.Numbers.{status_of}
 abbrev pub line_of : Refusal → List ℕ
 line_of (Unreadable name) = unread_line name.now
 line_of TooLarge = too_large_line
-line_of (NotBuilt cia) = unbuilt_line cia
 line_of (Bad name line column) = bad_line name.now line column
 line_of Unwritable = unwritten_line
 line_of OutOfMemory = no_memory_line
@@ -86,15 +83,10 @@ abbrev pub IsScriptRefusal : Change HostState → List ℕ → Refusal → Type 
 IsScriptRefusal host name (Bad which line column) = (which.now ≡ name) × IsBadScript host name line column
 IsScriptRefusal host name refusal = IsReadRefusal host name refusal
 
--- the first instruction that isn't built, of those that a run of the boot reaches, is at this address
-abbrev pub ReachesUnbuilt : Boot → ℕ → ℕ → Type 0
-ReachesUnbuilt boot n cia = (cycle : ℕ) × (first_unbuilt boot n ≡ Some (cycle, cia))
-
--- why there is no text of a run
-abbrev pub IsRunRefusal : Boot → ℕ → Refusal → Type 0
-IsRunRefusal boot n (NotBuilt cia) = ReachesUnbuilt boot n cia
-IsRunRefusal boot n OutOfMemory = ⊤
-IsRunRefusal boot n refusal = ⊥
+-- why there is no text of a run: memory is wanting, and nothing else
+abbrev pub IsRunRefusal : Refusal → Type 0
+IsRunRefusal OutOfMemory = ⊤
+IsRunRefusal refusal = ⊥
 
 -- why an order gives nothing to write: a file isn't read, memory is wanting, or the order comes to the refusal
 abbrev pub GivesNothing : Change HostState → Order → Refusal → Type 0

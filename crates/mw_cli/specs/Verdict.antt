@@ -1,24 +1,18 @@
 -- What an order comes to, given what its files have.
 use Rattle.std.specs.Prelude.{ℕ, ◌≡◌, if◌then◌else◌, nat_lt, List, [], ◌∷◌, ◌++◌, length, Option, Some, None, unwrap_or, Result, Ok, Err, codes, decimal}
 use Rattle.mw_bus.specs.Memory.{ram_size}
-use Rattle.mw_digits.specs.Digits.{hex}
-use Rattle.mw_isa.specs.Unbuilt.{first_unbuilt}
 use Rattle.mw_uart.specs.Script.{Place as ScriptPlace, script_of}
 use Rattle.mw_asm.specs.declared.fault.Place.{Place}
 use Rattle.mw_asm.specs.Assembled.{assembled}
 use Rattle.mw_asm.specs.Disassembly.{disassembly}
 use Rattle.mw_cli.specs.declared.status.Status.{Status}
-use Rattle.mw_cli.specs.declared.status.Status.TheVariants.{Done, ImageTooLarge, BadInput, Unbuilt}
+use Rattle.mw_cli.specs.declared.status.Status.TheVariants.{Done, ImageTooLarge, BadInput}
 use Rattle.mw_cli.specs.Command.{RunOrder, Order, Run, Assemble, Disassemble}
 use Rattle.mw_cli.specs.Headline.{AskedRun, run_of, SpellsRun}
 
 -- the line on err for an image that is longer than RAM
 abbrev pub too_large_line : List ℕ
 too_large_line = codes "mw: image exceeds 16777216 bytes\n"
-
--- the line on err for the first instruction that isn't built, with its address
-abbrev pub unbuilt_line : ℕ → List ℕ
-unbuilt_line cia = codes "mw: unbuilt at " ++ hex 16 cia ++ codes "\n"
 
 -- the end of the line on err for a refused source or script: its line and column, in decimal
 abbrev pub place_line : ℕ → ℕ → List ℕ
@@ -71,19 +65,10 @@ unless_too_large image verdict = if nat_lt ram_size (length image) then Refuses 
 abbrev pub run_by : RunOrder → List ℕ → List (ℕ × ℕ) → AskedRun
 run_by order image script = run_of image script order.cycles order.dump
 
--- this is written, unless the run reaches an instruction that isn't built
-abbrev pub unless_unbuilt : Option (ℕ × ℕ) → Output → Verdict
-unless_unbuilt None output = Writes output
-unless_unbuilt (Some (cycle, cia)) output = Refuses Unbuilt (unbuilt_line cia)
-
 -- the bytes of the source of this name are written, unless it is refused at a place
 abbrev pub unless_bad : List ℕ → Result (List ℕ) Place → Verdict
 unless_bad name (Ok bytes) = Writes (Bytes bytes)
 unless_bad name (Err place) = Refuses BadInput (bad_line name place.line place.column)
-
--- what a run comes to: its text is written, unless it reaches an instruction that isn't built
-abbrev pub verdict_on : AskedRun → Verdict
-verdict_on run = unless_unbuilt (first_unbuilt run.boot run.cycles) (TextOf run)
 
 -- what the script of this name leads to, unless its text is refused at a place
 abbrev pub with_script : List ℕ → Result (List (ℕ × ℕ)) ScriptPlace → (List (ℕ × ℕ) → Verdict) → Verdict
@@ -91,9 +76,9 @@ with_script name (Ok script) verdict = verdict script
 with_script name (Err place) verdict = Refuses BadInput (bad_line name place.line place.column)
 
 -- what a run comes to, given what its image's file has and the text of its script: the image's length is judged first,
--- then the script, then the run
+-- then the script, and behind them the text of the run is written
 abbrev pub verdict_by : RunOrder → List ℕ → List ℕ → Verdict
-verdict_by order image text = unless_too_large image (with_script (unwrap_or order.script []) (script_of text) (λ script. verdict_on (run_by order image script)))
+verdict_by order image text = unless_too_large image (with_script (unwrap_or order.script []) (script_of text) (λ script. Writes (TextOf (run_by order image script))))
 
 -- what an order comes to, given what its files have, in their order
 abbrev pub verdict_of : Order → List (List ℕ) → Verdict

@@ -29,7 +29,7 @@ struct Start {
     script: Script,
 }
 
-/// The text of a run of an image and a script.
+/// The text of a run of an image and a script. An `Err` says that memory is wanting.
 fn text_of_run<'a>(
     alloc: Global,
     image: &[u8],
@@ -41,7 +41,7 @@ fn text_of_run<'a>(
     requires few { cycles ≤ 4000000 }
     requires room { IfSome dump (λ span. span.at + span.len ≤ ram_size) }
     ensures text { IfOk result (SpellsRun (run_of image.now script.now cycles dump)) }
-    ensures refused { IfErr result (IsRunRefusal (record { image = image.now; script = script.now }) cycles) }
+    ensures refused { IfErr result IsRunRefusal }
 {
     let run = match simulate(alloc, image, script, cycles) {
         Ok(run) => run,

@@ -23,7 +23,7 @@ pub enum Status {
 }
 
 impl Status {
-    /// The number that the process ends with: 0 for `Done`, and 2 to 7 for the others in their order.
+    /// The number that the process ends with: 0 for `Done`, and 2 to 7 for the others in their order. No status has 1 or 8.
     pub fn number(self) -> u8
         ensures { result ≡ number_of self }
     {

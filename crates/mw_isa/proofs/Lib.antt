@@ -1,6 +1,5 @@
 -- What holds of each row of the table, of registers by name, of what raises an interrupt, of products, of a step, of a
--- replay, of interrupts between instructions, of a run's text and of an access and
--- of a walk.
+-- replay, of interrupts between instructions, of a run's text, of an access, of a walk, and what an instruction depends on.
 pub mod SlotLaws
 pub mod RowLaws
 pub mod ReadLaws
@@ -15,6 +14,7 @@ pub mod RunLaws
 pub mod WalkReadLaws
 pub mod WalkSameLaws
 pub mod WalkPageLaws
+pub mod DependLaws
 pub mod StorageLaws
 pub mod PageLaws
 pub mod StorageCases

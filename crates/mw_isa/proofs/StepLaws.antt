@@ -31,7 +31,7 @@ use Rattle.mw_isa.specs.declared.regs.Regs.{Regs}
 use Rattle.mw_isa.specs.declared.vector.Vector.{Vector}
 use Rattle.mw_isa.specs.State.{State}
 use Rattle.mw_isa.specs.Choose.{chosen, interrupted}
-use Rattle.mw_isa.specs.Cycle.{event_at, event_by, event_of, passed, passed_by}
+use Rattle.mw_isa.specs.Cycle.{event_at, next_event_by, next_event, passed, passed_by}
 use Rattle.mw_isa.specs.Prompt.{irq_of, is_prompt}
 use Rattle.mw_isa.specs.Pages.{is_in_ram}
 use Rattle.mw_isa.specs.Fetch.{fetch_at, fetched, fetched_by, is_cut, word_of, suffix_of}
@@ -301,12 +301,12 @@ prompt-calm true = refl
 prompt-calm false = refl
 
 -- each cycle has an event, which makes of the state what the cycle does, whatever is chosen
-acts-by : (choice : Option Vector) (state : State) → chosen state ≡ choice → acted (event_by choice state) state ≡ Some (passed_by choice state)
+acts-by : (choice : Option Vector) (state : State) → chosen state ≡ choice → acted (next_event_by choice state) state ≡ Some (passed_by choice state)
 acts-by None state e = acted-at (step state).trap state refl
 acts-by (Some vector) state e = acted-interrupted (cycle_of state.devices) vector state e
 
 -- each cycle has an event, which makes of the state what the cycle does
-pub cycle-acts : (state : State) → acted (event_of state) state ≡ Some (passed state)
+pub cycle-acts : (state : State) → acted (next_event state) state ≡ Some (passed state)
 cycle-acts state = acts-by (chosen state) state refl
 
 -- that event has the devices' cycle, whatever is chosen
@@ -314,19 +314,19 @@ event_at-cycle : (trap : Option Raised) (state : State) → cycle_of_event (even
 event_at-cycle None state = refl
 event_at-cycle (Some raised) state = refl
 
-event_by-cycle : (choice : Option Vector) (state : State) → cycle_of_event (event_by choice state) ≡ cycle_of state.devices
-event_by-cycle None state = event_at-cycle (step state).trap state
-event_by-cycle (Some vector) state = refl
+next_event_by-cycle : (choice : Option Vector) (state : State) → cycle_of_event (next_event_by choice state) ≡ cycle_of state.devices
+next_event_by-cycle None state = event_at-cycle (step state).trap state
+next_event_by-cycle (Some vector) state = refl
 
 -- that event has the devices' cycle
-pub event_of-cycle : (state : State) → cycle_of_event (event_of state) ≡ cycle_of state.devices
-event_of-cycle state = event_by-cycle (chosen state) state
+pub next_event-cycle : (state : State) → cycle_of_event (next_event state) ≡ cycle_of state.devices
+next_event-cycle state = next_event_by-cycle (chosen state) state
 
 -- that event leaves no interrupt waiting, whatever is chosen
-prompt-by : (choice : Option Vector) (state : State) → IsTrue (is_some (irq_of (event_by choice state)) || not (is_some choice))
-prompt-by None state = prompt-calm (is_some (irq_of (event_by None state)))
+prompt-by : (choice : Option Vector) (state : State) → IsTrue (is_some (irq_of (next_event_by choice state)) || not (is_some choice))
+prompt-by None state = prompt-calm (is_some (irq_of (next_event_by None state)))
 prompt-by (Some vector) state = refl
 
 -- that event leaves no interrupt waiting
-pub cycle-prompt : (state : State) → IsTrue (is_prompt (event_of state) state)
+pub cycle-prompt : (state : State) → IsTrue (is_prompt (next_event state) state)
 cycle-prompt state = prompt-by (chosen state) state

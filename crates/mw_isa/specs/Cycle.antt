@@ -16,13 +16,13 @@ event_at (Some raised) state = Trap (cycle_of state.devices) state.regs.cia rais
 event_at None state = Retire (cycle_of state.devices) state.regs.cia (word_of (fetched state)) (suffix_of (fetched state))
 
 -- the event of a cycle, by what is chosen: that interrupt, or else the next instruction
-abbrev pub event_by : Option Vector → State → Event
-event_by (Some vector) state = Irq (cycle_of state.devices) state.regs.cia vector
-event_by None state = event_at (step state).trap state
+abbrev pub next_event_by : Option Vector → State → Event
+next_event_by (Some vector) state = Irq (cycle_of state.devices) state.regs.cia vector
+next_event_by None state = event_at (step state).trap state
 
 -- the event of the devices' cycle
-abbrev pub event_of : State → Event
-event_of state = event_by (chosen state) state
+abbrev pub next_event : State → Event
+next_event state = next_event_by (chosen state) state
 
 -- what a cycle makes of the state, by what is chosen: the interrupt is taken, or else the next instruction is carried out
 abbrev pub passed_by : Option Vector → State → State

@@ -31,6 +31,7 @@ pub mod Raises
 pub mod System
 pub mod Take
 pub mod Step
+pub mod Depends
 pub mod Choose
 pub mod Replay
 pub mod Cycle

@@ -1,9 +1,9 @@
-use Rattle.std.proofs.Common.{◌≡◌, ℕ, List, ◌/◌, Some, sym, ap, ◌∙◌, arith}
+use Rattle.std.proofs.Common.{◌≡◌, ℕ, List, ◌/◌, ap, ◌∙◌, arith}
 use Rattle.mw_soc.specs.DeviceData.{Housed}
 use Rattle.mw_soc.specs.Devices.{start_devices}
 use Rattle.mw_isa.specs.declared.state.State.{State as Whole}
 use Rattle.mw_isa.specs.State.{seen}
-use Rattle.mw_board.proofs.RunLemmas.{seen-start, made-init, made-next, made-unbuilt, made-end}
+use Rattle.mw_board.proofs.RunLemmas.{seen-start, made-init, made-next, made-end}
 use Rattle.mw_board.proofs.simulation.simulate.Goals as goal
 
 -- devices at the start, with memory for so many bytes
@@ -16,21 +16,16 @@ copied room copy script e = ap (housed room) e
 
 pub loop-cycle-init : goal.loop-cycle-init
 loop-cycle-init c = (
-  made-init (record { image = c.args.image.now; script = c.args.script.now }) c.args.n c.new-events.result (seen c.new-state.result) c.new-events.ensures
+  made-init (record { image = c.args.image.now; script = c.args.script.now }) c.new-events.result (seen c.new-state.result) c.new-events.ensures
       (seen-start (record { image = c.args.image.now; script = c.args.script.now }) (c.args.n / 160) c.new-state.result c.in-Ok.ram c.in-Ok-new.devices c.new-state.ensures c.in-Ok.ensures (c.in-Ok-new.ensures ∙ copied (c.args.n / 160) c.in-Ok-copy.script c.args.script.now c.in-Ok-copy.ensures)),
   ap (λ (w : Whole). w.devices.room) c.new-state.ensures ∙ ap (λ (h : Housed). h.room) c.in-Ok-new.ensures,
 )
 
 pub loop-cycle-preserved : goal.loop-cycle-preserved
 loop-cycle-preserved c = (
-  made-next (record { image = c.args.image.now; script = c.args.script.now }) c.args.n c.loop-cycle.events c.push.new.self c.loop-cycle.cycle c.in-Some.event (seen c.loop-cycle.state) (seen c.turned.new.state) c.advance.new.self.devices c.loop-cycle-test.true c.loop-cycle.invariant.0 (ap (λ (h : Housed). h.devices) c.advance.ensures) c.in-Some.ensures.turns c.in-Ok-push.ensures.ok,
-  c.in-Some.ensures.room ∙ ap (λ (h : Housed). h.room) c.advance.ensures ∙ c.loop-cycle.invariant.1,
+  made-next (record { image = c.args.image.now; script = c.args.script.now }) c.loop-cycle.events c.push.new.self c.loop-cycle.cycle c.turned-event.result (seen c.loop-cycle.state) (seen c.turned-event.new.state) c.advance.new.self.devices c.loop-cycle.invariant.0 (ap (λ (h : Housed). h.devices) c.advance.ensures) c.turned-event.ensures.event c.turned-event.ensures.after c.in-Ok-push.ensures.ok,
+  c.turned-event.ensures.room ∙ ap (λ (h : Housed). h.room) c.advance.ensures ∙ c.loop-cycle.invariant.1,
 )
-
-pub returns-in_default-turned-clause-cause : goal.returns-in_default-turned-clause-cause
-returns-in_default-turned-clause-cause c =
-    let met = made-unbuilt (record { image = c.args.image.now; script = c.args.script.now }) c.args.n c.loop-cycle.events c.loop-cycle.cycle (seen c.loop-cycle.state) (seen c.turned.new.state) c.advance.new.self.devices c.loop-cycle-test.true (omega arith) c.loop-cycle.invariant.0 (ap (λ (h : Housed). h.devices) c.advance.ensures) c.in_default-turned.ensures.turns in
-    (met.0, met.1 ∙ ap (λ (cia : ℕ). Some (c.loop-cycle.cycle, cia)) (sym c.cia.ensures))
 
 pub returns-clause-runs : goal.returns-clause-runs
 returns-clause-runs c =

@@ -1,5 +1,5 @@
 use Rattle.std.proofs.Common.{ℕ, List, ◌++◌, codes, refl, ap}
-use Rattle.mw_cli.specs.declared.refusal.Refusal.TheVariants.{Unreadable, Unwritable, TooLarge, Bad, OutOfMemory, NotBuilt}
+use Rattle.mw_cli.specs.declared.refusal.Refusal.TheVariants.{Unreadable, Unwritable, TooLarge, Bad, OutOfMemory}
 use Rattle.mw_cli.proofs.WritingLemmas.{told}
 use Rattle.mw_cli.proofs.report.report.Goals as goal
 
@@ -10,10 +10,6 @@ returns-in-Unreadable-clause-took g c =
 pub returns-in-TooLarge-clause-took : goal.returns-in-TooLarge-clause-took
 returns-in-TooLarge-clause-took g c =
     told _ _ c.args.refusal TooLarge c.in-TooLarge.is refl c.write_one.ensures.took
-
-pub returns-in-NotBuilt-clause-took : goal.returns-in-NotBuilt-clause-took
-returns-in-NotBuilt-clause-took g c =
-    told _ _ c.args.refusal (NotBuilt c.in-NotBuilt.cia) c.in-NotBuilt.is (ap (λ (x : List ℕ). codes "mw: unbuilt at " ++ x ++ codes "\n") c.hexadecimal.ensures) c.report_three-in-NotBuilt.ensures.took
 
 pub returns-in-Bad-clause-took : goal.returns-in-Bad-clause-took
 returns-in-Bad-clause-took g c =

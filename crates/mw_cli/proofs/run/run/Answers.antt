@@ -17,14 +17,12 @@ returns-clause-gives g c =
 
 pub returns-clause-refused : goal.returns-clause-refused
 returns-clause-refused g c =
-    let host = change (g.H.Host.state c.args.host.now) (g.H.Host.state c.read_start.new.host) in
-    let is = subst (λ (xs : List ℕ). IsStart host (run_in c.args.command.now) xs c.in-Ok.start.script) (sym c.as_slice.ensures.value) c.in-Ok.ensures.start in
-    run-refused host (run_in c.args.command.now) c.as_slice.result.now c.in-Ok.start.script c.text_of_run.result is c.text_of_run.ensures.refused
+    run-refused (change (g.H.Host.state c.args.host.now) (g.H.Host.state c.read_start.new.host)) (run_in c.args.command.now) c.text_of_run.result c.text_of_run.ensures.refused
 
 pub returns-clause-faults : goal.returns-clause-faults
 returns-clause-faults g c =
-    run-calm (record { image = c.as_slice.result.now; script = c.in-Ok.start.script }) c.args.command.now.cycles (g.H.Host.state c.args.host.now).faults (g.H.Host.state c.read_start.new.host).faults c.text_of_run.result (stayed _ _ c.in-Ok.ensures.faults) c.text_of_run.ensures.refused
+    run-calm (g.H.Host.state c.args.host.now).faults (g.H.Host.state c.read_start.new.host).faults c.text_of_run.result (stayed _ _ c.in-Ok.ensures.faults) c.text_of_run.ensures.refused
 
 pub returns-clause-goes : goal.returns-clause-goes
 returns-clause-goes g c =
-    goes-run (change (g.H.Host.state c.args.host.now) (g.H.Host.state c.read_start.new.host)) (files_of (Run (run_in c.args.command.now))) (record { image = c.as_slice.result.now; script = c.in-Ok.start.script }) c.args.command.now.cycles c.text_of_run.result c.text_of_run.ensures.refused c.in-Ok.ensures.goes
+    goes-run (change (g.H.Host.state c.args.host.now) (g.H.Host.state c.read_start.new.host)) (files_of (Run (run_in c.args.command.now))) c.text_of_run.result c.text_of_run.ensures.refused c.in-Ok.ensures.goes

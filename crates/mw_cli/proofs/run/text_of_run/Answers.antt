@@ -11,4 +11,4 @@ pub returns-in-Ok-print-clause-text : goal.returns-in-Ok-print-clause-text
 returns-in-Ok-print-clause-text c =
     spells-run (run_of c.args.image.now c.args.script.now c.args.cycles c.args.dump) c.in-Ok-print.text c.in-Ok.run'.events c.in-Ok.run'.end (seen c.in-Ok.run'.state) c.in-Ok.ensures.runs
     (c.in-Ok-print.ensures.text ∙ ap (λ (es : List Event). text_of es c.in-Ok.run'.end (seen c.in-Ok.run'.state) c.args.dump) c.as_slice.ensures)
-    (subst (λ (es : List Event). Spells c.in-Ok-print.text es c.in-Ok.run'.end) c.as_slice.ensures c.in-Ok-print.ensures.spells) c.in-Ok.ensures.each_cycle c.in-Ok.ensures.built
+    (subst (λ (es : List Event). Spells c.in-Ok-print.text es c.in-Ok.run'.end) c.as_slice.ensures c.in-Ok-print.ensures.spells) c.in-Ok.ensures.each_cycle
