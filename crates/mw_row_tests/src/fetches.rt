@@ -90,7 +90,13 @@ static FETCHES: [Row; 11] = [
 ];
 
 // li r4,0x4000; mtspr 27,r4; li r5,0x24; mtspr 26,r5; rfid
-const PROBLEM: &[u32] = &[0x3880_4000, 0x7c9b_03a6, 0x38a0_0024, 0x7cba_03a6, 0x4c00_0024];
+const PROBLEM: &[u32] = &[
+    0x3880_4000,
+    0x7c9b_03a6,
+    0x38a0_0024,
+    0x7cba_03a6,
+    0x4c00_0024,
+];
 
 /// Programs in problem state.
 #[rattlefmt::skip]

@@ -1,8 +1,8 @@
 use crate::alone::{OTHER, carried, first};
 use crate::tree::{TREE, put_tables};
 use mw_isa::Vector::{
-    Alignment, DataSegment, DataStorage, FpUnavailable, InstSegment, InstStorage, Program, SystemCall,
-    VectorUnavailable, VsxUnavailable,
+    Alignment, DataSegment, DataStorage, FpUnavailable, InstSegment, InstStorage, Program,
+    SystemCall, VectorUnavailable, VsxUnavailable,
 };
 use mw_isa::{Event, Regs, State, Vector};
 use std::process::Abort;
@@ -564,7 +564,12 @@ fn compare(rt: &impl Abort, state: &State, event: Event, row: &Row, msr: u64, en
     match end {
         None => assert_eq!(rt;
             event,
-            Event::Retire { cycle, cia, word, suffix },
+            Event::Retire {
+                cycle,
+                cia,
+                word,
+                suffix
+            },
             "{word:08x} at {cia:x} under {msr:x}, for {address:x} by {tables:?}"
         ),
         Some(Trap(vector, cause, dar, dsisr)) => {
@@ -612,7 +617,9 @@ fn lay_row(state: &mut State, row: &Row) {
     let real = u64::from(*real);
     put_tables(&mut state.ram, tables);
     state.ram.write(real, &word.to_le_bytes());
-    state.ram.write(real + 4, &suffix.unwrap_or(0).to_le_bytes());
+    state
+        .ram
+        .write(real + 4, &suffix.unwrap_or(0).to_le_bytes());
 }
 
 /// Takes them away again, and puts the tree back.

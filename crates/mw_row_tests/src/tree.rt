@@ -80,9 +80,5 @@ pub fn happen(rt: &impl Abort, events: &[Event], some: &[Event], shown: &impl De
     for event in some {
         assert!(rt; is_among(events, event), "{event:?} of {shown:?}");
     }
-    assert_eq!(rt;
-        traps_in(events),
-        traps_in(some),
-        "the traps of {shown:?}"
-    );
+    assert_eq!(rt; traps_in(events), traps_in(some), "the traps of {shown:?}");
 }
