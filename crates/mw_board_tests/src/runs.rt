@@ -112,3 +112,68 @@ fn programs_leave_their_registers(rt: HostRuntime) -> Result<(), Fail> {
     }
     Ok(())
 }
+
+/// The words of an image, a number of cycles, and CIA, SRR0 and SRR1 at the end.
+struct Astray(&'static [u32], u64, [u64; 3]);
+
+/// Programs that turn the translation of fetches on where the first two words of the image are process 0's entry.
+#[rattlefmt::skip]
+static ASTRAY: [Astray; 6] = [
+    // li r4,0x20; mtmsrd r4,0: a root of 28 bits
+    Astray(&[0x3880_0020, 0x7c80_0164], 2, [8, 0, 0]),
+    Astray(&[0x3880_0020, 0x7c80_0164], 3, [0x400, 8, 0x9000_0000_0008_1021]),
+    // li r4,0x4000; b 12; at 12 mtmsr r4,0: a root of 8 bits behind RAM, where each page is privileged
+    Astray(&[0x3880_4000, 0x4800_0008, 0, 0x7c80_0124], 4, [0x400, 0x10, 0x9000_0000_1000_d031]),
+    // paddi r4,0,0x20; mtmsrd r4,0: a root of 24 bits
+    Astray(&[0x0600_0000, 0x3880_0020, 0x7c80_0164], 3, [0x400, 0xc, 0x9000_0000_0008_1021]),
+    // li r4,0x20; mtspr 27,r4; rfid: a root of 28 bits; and the zeros at 0x400 and at 0x700
+    Astray(&[0x3880_0020, 0x7c9b_03a6, 0x4c00_0024], 4, [0x400, 0, 0x9000_0000_0008_1021]),
+    Astray(&[0x3880_0020, 0x7c9b_03a6, 0x4c00_0024], 9, [0x700, 0x700, 0x9000_0000_0008_1001]),
+];
+
+#[test]
+fn translation_without_tables_ends_no_run(rt: HostRuntime) -> Result<(), Fail> {
+    let alloc = rt.alloc();
+    for Astray(words, n, want) in &ASTRAY {
+        assert!(rt; *n <= 9);
+        let image = image_of(alloc, *words)?;
+        match simulate(alloc, image.as_slice(), &Script::new(alloc), *n) {
+            Ok(run) => {
+                let regs = &run.state.regs;
+                assert_eq!(rt;
+                    [regs.cia, regs.srr0, regs.srr1],
+                    *want,
+                    "{n} cycles of {words:?}"
+                );
+                assert_eq!(rt; run.end, End::Ran { cycle: *n }, "{words:?}");
+            }
+            Err(fault) => panic!(rt; "{fault:?} at {words:?}"),
+        }
+    }
+    Ok(())
+}
+
+#[test]
+fn one_word_over_and_over_runs(rt: HostRuntime) -> Result<(), Fail> {
+    let alloc = rt.alloc();
+    for word in [
+        0x0000_0000,
+        0xffff_ffff,
+        0x0606_0606,
+        0x3838_3838,
+        0x4c4c_4c4c,
+        0x7c7c_7c7c,
+        0x4c00_0024, // rfid
+        0x7c60_0164, // mtmsrd r3,0
+    ] {
+        let image = image_of(alloc, &[word; 1024])?;
+        match simulate(alloc, image.as_slice(), &Script::new(alloc), 5000) {
+            Ok(run) => {
+                assert_eq!(rt; run.events.as_slice().len(), 5000, "{word:08x}");
+                assert_eq!(rt; run.end, End::Ran { cycle: 5000 }, "{word:08x}");
+            }
+            Err(fault) => panic!(rt; "{fault:?} at {word:08x}"),
+        }
+    }
+    Ok(())
+}

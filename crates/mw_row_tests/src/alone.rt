@@ -27,11 +27,16 @@ pub fn lay(state: &mut State, word: u32, suffix: u32, cia: u32) {
     state.regs.cia = at;
 }
 
-/// Carries out the next instruction; whether it retired.
-pub fn retires(state: &mut State) -> bool {
+/// Carries out the next instruction.
+pub fn carried(state: &mut State) -> Event {
     let mut prepared = Prepared::new();
     prepare(state, &mut prepared);
-    match carry_out(state, &mut prepared) {
+    carry_out(state, &mut prepared)
+}
+
+/// Carries out the next instruction; whether it retired.
+pub fn retires(state: &mut State) -> bool {
+    match carried(state) {
         Event::Retire { .. } => true,
         Event::Trap { .. } => false,
         Event::Irq { .. } => false,

@@ -1,4 +1,4 @@
-use crate::left::Name::{Cia, Dec, Msr, Sprg3, Srr0, Srr1, Traps, Xer};
+use crate::left::Name::{Cia, Dar, Dec, Dsisr, Msr, Sprg3, Srr0, Srr1, Traps, Xer};
 use mw_board::Run;
 use mw_isa::Event;
 use std::fmt::Debug;
@@ -12,6 +12,8 @@ pub enum Name {
     Msr,
     Srr0,
     Srr1,
+    Dar,
+    Dsisr,
     Sprg3,
     Xer,
     Dec,
@@ -38,6 +40,8 @@ fn content_of(run: &Run, name: Name) -> u64 {
         Msr => regs.msr,
         Srr0 => regs.srr0,
         Srr1 => regs.srr1,
+        Dar => regs.dar,
+        Dsisr => u64::from(regs.dsisr),
         Sprg3 => regs.sprg[3],
         Xer => regs.xer,
         Dec => u64::from(run.state.devices.dec()),

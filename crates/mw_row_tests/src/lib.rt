@@ -12,6 +12,8 @@ mod conditions;
 #[cfg(test)]
 mod controller;
 #[cfg(test)]
+mod fetches;
+#[cfg(test)]
 mod interrupts;
 #[cfg(test)]
 mod left;
@@ -21,6 +23,8 @@ mod logic;
 mod numbers;
 #[cfg(test)]
 mod pending;
+#[cfg(test)]
+mod problem;
 #[cfg(test)]
 mod programs;
 #[cfg(test)]
@@ -35,5 +39,7 @@ mod system;
 mod translated;
 #[cfg(test)]
 mod traps;
+#[cfg(test)]
+mod tree;
 #[cfg(test)]
 mod units;

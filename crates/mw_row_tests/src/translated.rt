@@ -1,17 +1,15 @@
-use crate::left::traps_in;
+use crate::tree::{happen, image_of};
 use mw_board::{Run, simulate};
-use mw_bus::Ram;
 use mw_isa::{Event, Vector};
 use mw_uart::Script;
-use std::alloc::{AllocError as NoMemory, Global};
 use std::process::Abort;
 use std::test::Fail;
 
 /// A program in a tree of tables, and what it leaves.
 struct Row {
-    /// The number of the process, which the head lays.
+    /// The number of the process.
     pid: u32,
-    /// The words with their addresses: those behind the head, handlers, and doublewords that are loaded.
+    /// The words with their addresses: those behind the start, handlers, and doublewords that are loaded.
     parts: &'static [(u32, &'static [u32])],
     /// The doublewords of tables, with their addresses, that stand beside those of the tree or in their place.
     tables: &'static [(u32, u64)],
@@ -29,28 +27,8 @@ struct Row {
     sent: &'static [u8],
 }
 
-// (li 3,PID); mtspr 48,3; lis 3,1; mtspr 720,3; mfmsr 4; ori 4,4,16; mtmsrd 4,0
-const HEAD: &[u32] = &[
-    0x7c70_0ba6,
-    0x3c60_0001,
-    0x7c70_b3a6,
-    0x7c80_00a6,
-    0x6084_0010,
-    0x7c80_0164,
-];
-
-/// Where `b .` stands, unless a row has words of its own there.
-const HANDLERS: [u32; 3] = [0x300, 0x380, 0x600];
-
-/// The tree: the entry of process 1, the root, two levels below it, and the leaves of page 0 and of page 5.
-const TREE: [(u32, u64); 6] = [
-    (0x1_0010, 0x4000_0000_0002_00ad),
-    (0x2_0000, 0x8000_0000_0003_0009),
-    (0x3_0000, 0x8000_0000_0003_1009),
-    (0x3_1000, 0x8000_0000_0003_2009),
-    (0x3_2000, 0xc000_0000_0000_0187),
-    (0x3_2028, 0xc000_0000_0000_5186),
-];
+// mfmsr 4; ori 4,4,16; mtmsrd 4,0
+const START: &[u32] = &[0x7c80_00a6, 0x6084_0010, 0x7c80_0164];
 
 /// SRR1 behind an interrupt that data translation was on before.
 const ON: u64 = 0x9000_0000_0000_1011;
@@ -164,63 +142,10 @@ static ROWS: [Row; 20] = [
         saved: [0; 5], contents: &[(7, 0x77)], bytes: &[], sent: b"" },
 ];
 
-/// Lays a doubleword at an address, big-endian.
-fn put(ram: &mut Ram, address: u32, doubleword: u64) {
-    ram.write(u64::from(address), &doubleword.to_be_bytes());
-}
-
-/// Lays words from an address on, each little-endian.
-fn put_words(alloc: Global, ram: &mut Ram, address: u32, words: &[u32]) -> Result<(), NoMemory> {
-    let mut bytes = Vec::new(alloc);
-    for word in words {
-        bytes.extend_from_slice(&word.to_le_bytes())?;
-    }
-    ram.write(u64::from(address), bytes.as_slice());
-    Ok(())
-}
-
-/// The image of a row, from address 0 on and with zeros behind it.
-fn image_of(alloc: Global, row: &Row) -> Result<Ram, NoMemory> {
-    let mut ram = Ram::new(alloc, &[])?;
-    put_words(alloc, &mut ram, 0, &[0x3860_0000 | row.pid])?;
-    put_words(alloc, &mut ram, 4, HEAD)?;
-    for address in HANDLERS {
-        put_words(alloc, &mut ram, address, &[0x4800_0000])?;
-    }
-    for (address, words) in row.parts {
-        put_words(alloc, &mut ram, *address, *words)?;
-    }
-    for (address, doubleword) in &TREE {
-        put(&mut ram, *address, *doubleword);
-    }
-    for (address, doubleword) in row.tables {
-        put(&mut ram, *address, *doubleword);
-    }
-    Ok(ram)
-}
-
-/// Whether an event is one of a run's.
-fn is_among(events: &[Event], event: &Event) -> bool {
-    for other in events {
-        if *other == *event {
-            return true;
-        }
-    }
-    false
-}
-
 /// Says where a run has another end than a row says.
 fn compare(rt: &impl Abort, row: &Row, run: &Run) {
     let parts = row.parts;
-    let events = run.events.as_slice();
-    for event in row.events {
-        assert!(rt; is_among(events, event), "{event:?} of {parts:?}");
-    }
-    assert_eq!(rt;
-        traps_in(events),
-        traps_in(row.events),
-        "the traps of {parts:?}"
-    );
+    happen(rt, run.events.as_slice(), row.events, &parts);
     let regs = &run.state.regs;
     assert_eq!(rt;
         [
@@ -252,7 +177,7 @@ fn data_is_translated(rt: HostRuntime) -> Result<(), Fail> {
     let alloc = rt.alloc();
     for row in &ROWS {
         assert!(rt; row.n <= 200000);
-        let ram = image_of(alloc, row)?;
+        let ram = image_of(alloc, row.pid, START, row.parts, row.tables)?;
         match simulate(alloc, ram.slice(0, 0x20_6000), &Script::new(alloc), row.n) {
             Ok(run) => compare(&rt, row, &run),
             Err(fault) => panic!(rt; "{fault:?} at {:?}", row.parts),
