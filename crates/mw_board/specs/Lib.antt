@@ -1,2 +1,3 @@
--- When a run is refused.
+-- In reading order: one cycle, and when a run is refused.
+pub mod Turns
 pub mod Faults

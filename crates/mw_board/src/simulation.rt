@@ -5,12 +5,14 @@ ghost use Rattle.mw_soc.specs.Devices.{cycle_of};
 ghost use Rattle.mw_isa.specs.State.{seen, brought};
 ghost use Rattle.mw_isa.specs.Replay.{cycles_of};
 ghost use Rattle.mw_isa.specs.Runs.{Runs};
+ghost use Rattle.mw_isa.specs.Stops.{stop_of};
 ghost use Rattle.mw_board.specs.Faults.{HasCause};
 
 use crate::run::{Run, RunFault};
-use crate::turn::turned;
+use crate::turn::{Halt, turned};
 use mw_bus::{RAM_SIZE, Ram};
-use mw_isa::{End, Events, State};
+use mw_discipline::Monitor;
+use mw_isa::{Access, End, Events, State};
 use mw_soc::Devices;
 use mw_step::Prepared;
 use mw_uart::Script;
@@ -33,13 +35,28 @@ fn stopped(events: Events, mut state: State, n: u64) -> Run
     }
 }
 
-/// Runs an image for `n` cycles, an instruction a cycle, from the machine's start with the image at real
-/// address 0; the bytes of the script arrive at the UART, each at its cycle. `Err` says why there is no run:
-/// `ImageTooLarge` exactly where the image is longer than RAM, and else `NoMemory`, where memory is wanting.
+/// The run that stopped with these events and in this state, whose devices stand at the cycle, before an access that breaks
+/// the update discipline.
+fn offended(events: Events, state: State, cycle: u64, access: Access) -> Run
+    ensures events { result.events ≡ events }
+    ensures end { result.end ≡ End.Offence cycle access }
+    ensures last { seen result.state ≡ seen state }
+{
+    Run {
+        events,
+        end: End::Offence { cycle, access },
+        state,
+    }
+}
+
+/// Runs an image for `n` cycles, an instruction a cycle, from the machine's start with the image at real address 0; the
+/// bytes of the script arrive at the UART, each at its cycle. Where the next instruction has an access that breaks the
+/// update discipline the run ends with that, before it. `Err` says why there is no run: `ImageTooLarge` exactly where the
+/// image is longer than RAM, and else `NoMemory`, where memory is wanting.
 pub fn simulate(alloc: Global, image: &[u8], script: &Script, n: u64) -> Result<Run, RunFault>
     requires { n ≤ 4000000 }
     ensures runs { IfOk result (λ run. Runs (record { image = image.now; script = script.now }) n run.events run.end (seen run.state)) }
-    ensures each_cycle { IfOk result (λ run. cycles_of run.events ≡ range_with_len 0 n) }
+    ensures each_cycle { IfOk result (λ run. cycles_of run.events ≡ range_with_len 0 (stop_of run.end)) }
     ensures cause { IfErr result (HasCause image.now) }
     ensures too_large { (result ≡ Err RunFault.ImageTooLarge) ↔ (ram_size < length image.now) }
 {
@@ -57,10 +74,17 @@ pub fn simulate(alloc: Global, image: &[u8], script: &Script, n: u64) -> Result<
     };
     let mut state = State::new(ram, devices);
     let mut events = Events::new(alloc);
+    let Ok(mut monitor) = Monitor::new(alloc) else {
+        return Err(RunFault::NoMemory);
+    };
     let mut prepared = Prepared::new();
     for cycle in 0..n {
         state.devices.advance(cycle);
-        let event = turned(&mut state, &mut prepared);
+        let event = match turned(&mut state, &mut prepared, &mut monitor) {
+            Ok(event) => event,
+            Err(Halt::NoMemory) => return Err(RunFault::NoMemory),
+            Err(Halt::Offence(access)) => return Ok(offended(events, state, cycle, access)),
+        };
         let Ok(()) = events.push(event) else {
             return Err(RunFault::NoMemory);
         };

@@ -1,33 +1,64 @@
-ghost use Rattle.std.specs.Prelude.{◌≡◌, None};
+ghost use Rattle.std.specs.Prelude.{◌≡◌, ◌+◌, ◌≤◌, IfErr, IfOk, None, OnOk};
 ghost use Rattle.mw_isa.specs.Choose.{chosen};
-ghost use Rattle.mw_isa.specs.Cycle.{event_at, next_event, passed};
 ghost use Rattle.mw_isa.specs.State.{seen};
-ghost use Rattle.mw_isa.specs.Step.{step};
+ghost use Rattle.mw_board.specs.Turns.{IsHalted, IsTurned};
 
-use mw_isa::{Event, State};
+use mw_discipline::{Monitor, RamTables};
+use mw_isa::{Access, Event, State};
 use mw_step::{Prepared, carry_out, chosen, interrupt, prepare};
 
-/// Carries out the next instruction at the devices' cycle, in whose place no interrupt is taken. What is known of it
-/// is written over `prepared`. It takes no memory, and can't fail.
-fn instructed(state: &mut State, prepared: &mut Prepared) -> Event
-    requires { chosen (seen state.old) ≡ None }
-    ensures event { result ≡ event_at (step (seen state.old)).trap (seen state.old) }
-    ensures after { seen state.new ≡ (step (seen state.old)).after }
+/// Why a cycle has no event.
+#[derive(Clone, Copy, Debug, PartialEq, Eq)]
+pub enum Halt {
+    /// The next instruction has this access, its first that breaks the update discipline.
+    Offence(Access),
+    /// Memory is wanting.
+    NoMemory,
+}
+
+/// Carries out the next instruction at the devices' cycle, in whose place no interrupt is taken, unless it breaks the
+/// update discipline. What is known of it is written over `prepared`, and the monitor records it before it takes effect.
+fn instructed(
+    state: &mut State,
+    prepared: &mut Prepared,
+    monitor: &mut Monitor,
+) -> Result<Event, Halt>
+    requires calm { chosen (seen state.old) ≡ None }
+    requires few { monitor.old.added ≤ 100000000 }
+    ensures ok { IfOk result (λ event. IsTurned event monitor.old.kept (seen state.old) monitor.new.kept (seen state.new)) }
+    ensures halt { IfErr result (λ halt. IsHalted halt monitor.old.kept (seen state.old) (seen state.new)) }
+    ensures added { OnOk result (monitor.new.added ≤ monitor.old.added + 6) }
     ensures room { state.new.devices.room ≡ state.old.devices.room }
 {
     prepare(state, prepared);
-    carry_out(state, prepared)
+    let packet = &prepared.packet;
+    if let Err(access) = monitor.check(packet, &mut RamTables::new(&state.ram), &state.regs) {
+        return Err(Halt::Offence(access));
+    }
+    let Ok(()) = monitor.record(packet, &mut RamTables::new(&state.ram), &state.regs) else {
+        return Err(Halt::NoMemory);
+    };
+    Ok(carry_out(state, prepared))
 }
 
-/// What happens in the devices' cycle: the interrupt that is chosen, or else the next instruction. There is always an
-/// event. It takes no memory, and can't fail.
-pub fn turned(state: &mut State, prepared: &mut Prepared) -> Event
-    ensures event { result ≡ next_event (seen state.old) }
-    ensures after { seen state.new ≡ passed (seen state.old) }
+/// What happens in the devices' cycle: the interrupt that is chosen, or else the next instruction, unless it breaks the
+/// update discipline.
+pub fn turned(
+    state: &mut State,
+    prepared: &mut Prepared,
+    monitor: &mut Monitor,
+) -> Result<Event, Halt>
+    requires few { monitor.old.added ≤ 100000000 }
+    ensures ok { IfOk result (λ event. IsTurned event monitor.old.kept (seen state.old) monitor.new.kept (seen state.new)) }
+    ensures halt { IfErr result (λ halt. IsHalted halt monitor.old.kept (seen state.old) (seen state.new)) }
+    ensures added { OnOk result (monitor.new.added ≤ monitor.old.added + 6) }
     ensures room { state.new.devices.room ≡ state.old.devices.room }
 {
     match chosen(state) {
-        Some(vector) => interrupt(state, vector),
-        None => instructed(state, prepared),
+        Some(vector) => {
+            monitor.interrupted();
+            Ok(interrupt(state, vector))
+        }
+        None => instructed(state, prepared, monitor),
     }
 }

@@ -1,4 +1,5 @@
 use mw_board::simulate;
+use mw_isa::End;
 use mw_uart::Script;
 use std::alloc::{AllocError as NoMemory, Global};
 use std::test::Fail;
@@ -67,6 +68,7 @@ fn programs_of_devices(rt: HostRuntime) -> Result<(), Fail> {
         let image = image_of(alloc, *words, *base)?;
         match simulate(alloc, image.as_slice(), &Script::new(alloc), *n) {
             Ok(run) => {
+                assert_eq!(rt; run.end, End::Ran { cycle: *n }, "{words:?} at {n}");
                 assert_eq!(rt; run.state.regs.gpr[6], *content, "r6 of {words:?} at {n}");
                 assert_eq!(rt;
                     run.state.devices.output(),

@@ -4,6 +4,8 @@
 #[cfg(test)]
 mod devices;
 #[cfg(test)]
+mod discipline;
+#[cfg(test)]
 mod exec;
 #[cfg(test)]
 mod isa;

@@ -44,6 +44,7 @@ fn a_run_has_an_event_a_cycle(rt: HostRuntime) -> Result<(), Fail> {
     match simulate(alloc, &image, &Script::new(alloc), 0) {
         Ok(run) => {
             assert_eq!(rt; run.events.as_slice().len(), 0);
+            assert_eq!(rt; run.end, End::Ran { cycle: 0 });
             assert_eq!(rt; [run.state.regs.gpr[3], run.state.regs.cia], [0, 0]);
         }
         Err(fault) => panic!(rt; "{fault:?}"),
@@ -97,6 +98,7 @@ fn programs_leave_their_registers(rt: HostRuntime) -> Result<(), Fail> {
         let image = image_of(alloc, *words)?;
         match simulate(alloc, image.as_slice(), &Script::new(alloc), *n) {
             Ok(run) => {
+                assert_eq!(rt; run.end, End::Ran { cycle: *n }, "{words:?}");
                 assert_eq!(rt; run.state.regs.cia, *cia, "{words:?}");
                 for (number, content) in *contents {
                     assert!(rt; *number < 32);

@@ -1,7 +1,7 @@
 ghost use Rattle.std.specs.Prelude.{◌<◌, ◌^◌};
 
 use mw_board::{Run, simulate};
-use mw_isa::{Event, Vector};
+use mw_isa::{End, Event, Vector};
 use mw_uart::Script;
 use std::alloc::{AllocError as NoMemory, Global};
 use std::test::Fail;
@@ -131,6 +131,7 @@ fn each_row_of_storage_runs(rt: HostRuntime) -> Result<(), Fail> {
         match simulate(alloc, image.as_slice(), &Script::new(alloc), 6) {
             Ok(run) => {
                 let word = row.word;
+                assert_eq!(rt; run.end, End::Ran { cycle: 6 }, "{word:08x}");
                 let regs = &run.state.regs;
                 assert_eq!(rt; regs.gpr[6], row.loaded, "r6 of {word:08x}");
                 assert_eq!(rt; regs.gpr[3], row.base, "r3 of {word:08x}");
@@ -194,6 +195,7 @@ fn programs_of_accesses(rt: HostRuntime) -> Result<(), Fail> {
         let image = image_of(alloc, *words)?;
         match simulate(alloc, image.as_slice(), &Script::new(alloc), *n) {
             Ok(run) => {
+                assert_eq!(rt; run.end, End::Ran { cycle: *n }, "{words:?}");
                 assert_eq!(rt; run.state.regs.cr, *cr, "CR of {words:?}");
                 assert_eq!(rt; run.state.regs.gpr[6], *content, "r6 of {words:?}");
                 assert_eq!(rt; doubleword(&run, *at), *want, "{at} of {words:?}");
@@ -211,6 +213,8 @@ enum Fate {
     Retires,
     /// The access raises an alignment interrupt.
     Traps,
+    /// The run ended before the access.
+    Stopped,
     /// There is no run of the image.
     Refused,
 }
@@ -269,15 +273,20 @@ fn fate_of(alloc: Global, image: &[u8], n: u64) -> Fate {
         return Fate::Refused;
     }
     match simulate(alloc, image, &Script::new(alloc), n) {
-        Ok(run) => match run.events.as_slice().last() {
-            Some(
-                Event::Trap {
-                    vector: Vector::Alignment,
-                    ..
-                },
-            ) => Fate::Traps,
-            _ => Fate::Retires,
-        },
+        Ok(run) => {
+            if run.end != (End::Ran { cycle: n }) {
+                return Fate::Stopped;
+            }
+            match run.events.as_slice().last() {
+                Some(
+                    Event::Trap {
+                        vector: Vector::Alignment,
+                        ..
+                    },
+                ) => Fate::Traps,
+                _ => Fate::Retires,
+            }
+        }
         Err(_) => Fate::Refused,
     }
 }

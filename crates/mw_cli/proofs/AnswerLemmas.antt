@@ -2,12 +2,14 @@
 use Rattle.std.proofs.Common.{◌≡◌, ℕ, ◌⊎◌, inl, inr, List, Option, Some, None, IsSomeAnd, IfSome, IsSome, IsTrue, option_map, slice_get, refl, sym, ap, ◌∙◌, subst}
 use Rattle.mw_io.specs.Outside.{HostState}
 use Rattle.mw_cli.specs.declared.status.Status.{Status}
-use Rattle.mw_cli.specs.declared.status.Status.TheVariants.{Done, Usage, ReadFault, WriteFault, ImageTooLarge, BadInput, NoMemory}
-use Rattle.mw_cli.specs.Command.{Wanted, Order, files_of, order_of}
-use Rattle.mw_cli.specs.Verdict.{Output, Verdict, Writes, Refuses, status_by, verdict_of}
+use Rattle.mw_cli.specs.declared.status.Status.TheVariants.{Done, Offence, Usage, ReadFault, WriteFault, ImageTooLarge, BadInput, NoMemory}
+use Rattle.mw_cli.specs.Command.{Wanted, Order, Run, Assemble, Disassemble, files_of, order_of}
+use Rattle.mw_cli.specs.Verdict.{Output, TextOf, Bytes, Verdict, Writes, Refuses, MayEnd, MayGive, end_by, first_of, text_by, verdict_of}
 use Rattle.mw_cli.specs.Outside.{Change, contents_of}
+use Rattle.mw_cli.specs.Numbers.{ended}
 use Rattle.mw_cli.specs.Answers.{Call, ComesTo, Written, CutShort, Refused, Says, Faults, Asks, verdict_with, AreThere, Answers}
 use Rattle.mw_cli.proofs.FileLemmas.{Files}
+use Rattle.mw_cli.proofs.VerdictLemmas.{run-written}
 
 -- what some value has, the one value has
 pub at_some : {A : Type 0} (o : Option A) (P : A → Type 0) (x : A) → o ≡ Some x → IsSomeAnd o P → P x
@@ -23,21 +25,42 @@ comes-told host order told verdict files (contents, are, is) =
     let same : contents ≡ contents_of told (files_of order) = subst (λ (o : Files). IfSome o (λ t. contents ≡ contents_of t (files_of order))) files are in
     ap (verdict_of order) (sym same) ∙ is
 
--- what a status shows of the verdict: it is the verdict's, or that of a fault of the outside, or memory is wanting
+-- what a status shows of the verdict: the verdict may have it, or it is that of a fault of the outside, or memory is wanting
 abbrev pub Shows : Verdict → Status → Type 0
-Shows verdict status = (status ≡ status_by verdict) ⊎ ((status ≡ ReadFault) ⊎ (((status ≡ WriteFault) × ((output : Output) × (verdict ≡ Writes output))) ⊎ (status ≡ NoMemory)))
+Shows verdict status = MayGive verdict status ⊎ ((status ≡ ReadFault) ⊎ (((status ≡ WriteFault) × ((output : Output) × (verdict ≡ Writes output))) ⊎ (status ≡ NoMemory)))
 
 -- a refusal shows that the order comes to it
 refused-shows : (call : Call) (status : Status) (order : Order) (told : List ℕ → Option (List ℕ)) → Asks call order told → Refused call status → Shows (verdict_with told order) status
 refused-shows call status order told asks h =
     let (line, comes, only) = at_some (order_of call.words) _ order asks.0 h in
-    inl (sym (ap status_by (comes-told call.host order told (Refuses status line) asks.1 comes)))
+    inl (subst (λ (v : Verdict). MayGive v status) (sym (comes-told call.host order told (Refuses status line) asks.1 comes)) refl)
+
+-- whatever is written, it may be done
+done-may : (output : Output) → MayEnd output Done
+done-may (TextOf run) = inl refl
+done-may (Bytes bytes) = refl
+
+-- where the status is that of an offence, what is written is the text of a run
+offence-may : (order : Order) (contents : List (List ℕ)) (text : List ℕ) (output : Output) → verdict_of order contents ≡ Writes output → Offence ≡ ended (end_by order text) → MayEnd output Offence
+offence-may (Run order) contents text output e is =
+    let (short, (script, read, same)) = run-written order (first_of contents) (text_by order.script contents) output e in
+    subst (λ (o : Output). MayEnd o Offence) (sym same) (inr refl)
+offence-may (Assemble source) contents text output e is = cc
+offence-may (Disassemble image) contents text output e is = cc
+
+-- what is written shows the verdict
+written-shows : (call : Call) (status : Status) (order : Order) (told : List ℕ → Option (List ℕ)) (output : Output) → Asks call order told → ComesTo call.host order (Writes output) → MayEnd output status → Shows (verdict_with told order) status
+written-shows call status order told output asks comes may =
+    inl (subst (λ (v : Verdict). MayGive v status) (sym (comes-told call.host order told (Writes output) asks.1 comes)) may)
 
 -- each status that says why it comes shows what the order comes to
 shows : (call : Call) (status : Status) (order : Order) (told : List ℕ → Option (List ℕ)) → Asks call order told → Says call status → Shows (verdict_with told order) status
 shows call Done order told asks says =
-    let (text, (output, comes, is), took) = at_some (order_of call.words) (Written call.host call.out) order asks.0 says.0 in
-    inl (sym (ap status_by (comes-told call.host order told (Writes output) asks.1 comes)))
+    let (text, (output, comes, is), took, ends) = at_some (order_of call.words) (λ (o : Order). Written call.host call.out o Done) order asks.0 says.0 in
+    written-shows call Done order told output asks comes (done-may output)
+shows call Offence order told asks says =
+    let (text, (output, (contents, are, gives), is), took, ends) = at_some (order_of call.words) (λ (o : Order). Written call.host call.out o Offence) order asks.0 says.0 in
+    written-shows call Offence order told output asks (contents, are, gives) (offence-may order contents text output gives ends)
 shows call Usage order told asks says = absurd (some_or_none _ order asks.0 says.0)
 shows call ReadFault order told asks says = inr (inl refl)
 shows call WriteFault order told asks says =
@@ -71,19 +94,19 @@ answers call status says faults = record {
   says = says;
   faults = faults;
   exactly = λ order told refused line asks comes. elim (shows call status order told asks says) [
-    | inl e ↦ inl (e ∙ ap status_by comes)
+    | inl may ↦ inl (subst (λ (v : Verdict). MayGive v status) comes may)
     | inr (inl e) ↦ inr (inl (e, faults.reads.rose e))
     | inr (inr (inl (e, (output, writes)))) ↦ absurd (writes_or_refuses _ output refused line writes comes)
     | inr (inr (inr e)) ↦ inr (inr e)
   ];
   complete = λ order told output asks comes host out. elim (shows call status order told asks says) [
-    | inl e ↦ inl (e ∙ ap status_by comes)
+    | inl may ↦ inl (subst (λ (v : Verdict). MayGive v status) comes may)
     | inr (inl e) ↦ absurd (host (faults.reads.rose e))
     | inr (inr (inl (e, writes))) ↦ absurd (out (faults.writes.rose e))
     | inr (inr (inr e)) ↦ inr e
   ];
   sound = λ order told asks sound there out. elim (shows call status order told asks says) [
-    | inl e ↦ inl e
+    | inl may ↦ inl may
     | inr (inl e) ↦ absurd (all-there call order told asks sound there (subst (Says call) e says))
     | inr (inr (inl (e, writes))) ↦ absurd (out (faults.writes.rose e))
     | inr (inr (inr e)) ↦ inr e

@@ -1,14 +1,19 @@
 -- Why an order was refused, from the part that refused it, and what its status says.
-use Rattle.std.proofs.Common.{◌≡◌, ℕ, Option, Some, IsSomeAnd, inl, inr, refl, sym, subst}
+use Rattle.std.proofs.Common.{◌≡◌, ℕ, Option, Some, None, IsSomeAnd, inl, inr, refl, sym, ◌∙◌, subst}
+use Rattle.mw_isa.specs.declared.event.End.{End}
+use Rattle.mw_isa.specs.declared.event.End.TheVariants.{Ran, Offence as Offended}
 use Rattle.mw_io.specs.Outside.{HostState, SinkState, Counts}
-use Rattle.mw_cli.specs.declared.status.Status.TheVariants.{Done, ReadFault, WriteFault, NoMemory}
+use Rattle.mw_cli.specs.declared.status.Status.{Status}
+use Rattle.mw_cli.specs.declared.status.Status.TheVariants.{Done, Offence, ReadFault, WriteFault, NoMemory}
 use Rattle.mw_cli.specs.declared.refusal.Refusal.{Refusal}
 use Rattle.mw_cli.specs.declared.refusal.Refusal.TheVariants.{Unreadable, Unwritable, TooLarge, Bad, OutOfMemory}
 use Rattle.mw_cli.specs.Command.{Order, order_of}
 use Rattle.mw_cli.specs.Outside.{Change, change, TookNothing, TookUnlessFault}
-use Rattle.mw_cli.specs.Numbers.{status_of}
-use Rattle.mw_cli.specs.Answers.{Call, OnOrder, Says, Faults}
+use Rattle.mw_cli.specs.Verdict.{end_by}
+use Rattle.mw_cli.specs.Numbers.{status_of, ended}
+use Rattle.mw_cli.specs.Answers.{Call, OnOrder, Written, Obeyed, Says, Faults}
 use Rattle.mw_cli.specs.Stages.{line_of, GivesNothing, HasCause}
+use Rattle.mw_cli.proofs.EndLemmas.{ended-other}
 use Rattle.mw_cli.proofs.VerdictLemmas.{calm}
 
 -- an order that gives nothing to write
@@ -35,11 +40,11 @@ nothing-faults host s order refusal reads cause = record {
   wants = λ h. refl;
 }
 
--- the counts, where the order is done
-pub done-faults : (host : Change HostState) (out : Change SinkState) → host.after.faults ≡ host.before.faults → out.after.faults ≡ out.before.faults → out.after.wants ≡ out.before.wants → Faults host out Done
-done-faults host out reads writes wants = record {
-  reads = calm host.before.faults host.after.faults (Done ≡ ReadFault) reads (λ (e : Done ≡ ReadFault). cc);
-  writes = calm out.before.faults out.after.faults (Done ≡ WriteFault) writes (λ (e : Done ≡ WriteFault). cc);
+-- the counts, where the order was carried out
+pub ended-faults : (host : Change HostState) (out : Change SinkState) (end : Option End) (status : Status) → status ≡ ended end → host.after.faults ≡ host.before.faults → out.after.faults ≡ out.before.faults → out.after.wants ≡ out.before.wants → Faults host out status
+ended-faults host out end status is reads writes wants = record {
+  reads = calm host.before.faults host.after.faults (status ≡ ReadFault) reads (λ e. ended-other end ReadFault (λ (d : Done ≡ ReadFault). cc) (λ (o : Offence ≡ ReadFault). cc) (sym is ∙ e));
+  writes = calm out.before.faults out.after.faults (status ≡ WriteFault) writes (λ e. ended-other end WriteFault (λ (d : Done ≡ WriteFault). cc) (λ (o : Offence ≡ WriteFault). cc) (sym is ∙ e));
   wants = λ h. wants;
 }
 
@@ -62,3 +67,14 @@ says-refused call order (Bad name line column) e (cause, silent) told = on-order
 says-refused call order Unwritable e cause told = (on-order call order _ e cause, told)
 says-refused call order OutOfMemory e (inl silent) told = (inl silent, told)
 says-refused call order OutOfMemory e (inr (rose, cut)) told = (inr (rose, on-order call order _ e cut), told)
+
+-- the status of an order that was carried out says it
+says-ended : (call : Call) (end : Option End) → Obeyed call (ended end) → Says call (ended end)
+says-ended call None h = h
+says-ended call (Some (Ran cycle)) h = h
+says-ended call (Some (Offended cycle access)) h = h
+
+pub says-written : (call : Call) (order : Order) (status : Status) → order_of call.words ≡ Some order → TookNothing call.err → Written call.host call.out order status → Says call status
+says-written call order status e silent (text, gives, took, is) =
+    subst (Says call) (sym is)
+    (says-ended call (end_by order text) (on-order call order (λ (o : Order). Written call.host call.out o (ended (end_by order text))) e (text, gives, took, refl), silent))

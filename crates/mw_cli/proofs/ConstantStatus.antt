@@ -1,16 +1,24 @@
--- No refusal can be answered at every call: the contract itself excludes a program that always gives one of them.
-use Rattle.std.proofs.Common.{◌≡◌, ℕ, ◌≤◌, List, length, Option, Some, None, Ok, IfSome, ap, subst, ◌∙◌, arith}
+-- No refusal and no offence can be answered at every call: the contract itself excludes a program that always gives one of
+-- them.
+use Rattle.std.proofs.Common.{◌≡◌, ℕ, ◌<◌, ◌≤◌, List, length, Option, Some, None, Ok, IfSome, ap, subst, ◌∙◌, arith}
 use Rattle.mw_io.specs.Outside.{HostState, Rose, content_of}
 use Rattle.mw_asm.specs.Assembled.{assembled}
 use Rattle.mw_uart.specs.Script.{script_of}
-use Rattle.mw_cli.specs.declared.status.Status.TheVariants.{Usage, ReadFault, WriteFault, ImageTooLarge, BadInput}
+use Rattle.mw_cli.specs.declared.status.Status.TheVariants.{Offence, Usage, ReadFault, WriteFault, ImageTooLarge, BadInput}
 use Rattle.mw_cli.specs.Command.{RunOrder, Order, Run, Assemble, Disassemble, order_of}
 use Rattle.mw_cli.specs.Outside.{Change}
 use Rattle.mw_cli.specs.Answers.{Call, Asks, Answers}
 use Rattle.mw_cli.specs.Stages.{IsContent, IsTooLong}
 use Rattle.mw_cli.proofs.FileLemmas.{Files}
 use Rattle.mw_cli.proofs.AnswerLemmas.{some_or_none}
-use Rattle.mw_cli.proofs.EachStatus.{usage, read-fault, write-fault, too-large, too-large-disassembly, bad-input, bad-run, bad-disassembly}
+use Rattle.mw_cli.proofs.EachStatus.{offence-run, usage, read-fault, write-fault, too-large, too-large-disassembly, bad-input, bad-run, bad-disassembly}
+
+-- Offence isn't answered where a run of no cycles is asked for
+pub never-offence : (call : Call) (order : RunOrder) → order_of call.words ≡ Some (Run order) → order.cycles ≡ 0 → Answers call Offence → ⊥
+never-offence call order asked none a =
+    let (image, script, text, start, spells, took, (cycle, access, is, below)) = offence-run call order asked a in
+    let early : cycle < order.cycles = below in
+    omega arith
 
 -- Usage isn't answered where the words are an order
 pub never-usage : (call : Call) (order : Order) → order_of call.words ≡ Some order → Answers call Usage → ⊥

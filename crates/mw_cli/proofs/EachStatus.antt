@@ -1,7 +1,13 @@
 -- What the answers say of each status by itself, for any order and for a run, a source and a disassembly.
-use Rattle.std.proofs.Common.{◌≡◌, ℕ, ◌<◌, ◌≤◌, ◌⊎◌, inl, inr, List, [], ◌∷◌, length, Option, Some, None, Result, Ok, Err, IfSome, IsSomeAnd, IsTrue, option_map, slice_get, unwrap_or, refl, sym, ap, ◌∙◌, subst, arith}
+use Rattle.std.proofs.Common.{◌≡◌, ℕ, ◌<◌, ◌≤◌, ◌⊎◌, inl, inr, List, [], ◌∷◌, length, Option, Some, None, Result, Ok, Err, IfSome, IsSome, IsSomeAnd, IsTrue, ◌++◌, option_map, slice_get, unwrap_or, refl, sym, ap, ◌∙◌, subst, arith}
 use Rattle.std.proofs.lemmas.Bool.{cases_lt}
-use Rattle.mw_io.specs.Outside.{HostState, Counts, Rose, content_of}
+use Rattle.std.proofs.lemmas.List.{append_cancel_left}
+use Rattle.mw_isa.specs.declared.event.End.{End}
+use Rattle.mw_isa.specs.declared.event.End.TheVariants.{Ran}
+use Rattle.mw_isa.specs.Stops.{StopsBy}
+use Rattle.mw_isa.specs.Reading.{end_of}
+use Rattle.mw_isa.proofs.RunLaws.{run-spelled}
+use Rattle.mw_io.specs.Outside.{HostState, Counts, Rose, content_of, with_more}
 use Rattle.mw_bus.specs.Memory.{ram_size}
 use Rattle.mw_uart.specs.Script.{Place as ScriptPlace, script_of}
 use Rattle.mw_uart.proofs.Laws.{script_of-empty}
@@ -9,15 +15,17 @@ use Rattle.mw_asm.specs.declared.fault.Place.{Place}
 use Rattle.mw_asm.specs.Assembled.{assembled}
 use Rattle.mw_asm.specs.Disassembly.{disassembly}
 use Rattle.mw_cli.specs.declared.status.Status.{Status}
-use Rattle.mw_cli.specs.declared.status.Status.TheVariants.{Done, Usage, ReadFault, WriteFault, ImageTooLarge, BadInput, NoMemory}
+use Rattle.mw_cli.specs.declared.status.Status.TheVariants.{Done, Offence, Usage, ReadFault, WriteFault, ImageTooLarge, BadInput, NoMemory}
 use Rattle.mw_cli.specs.Command.{Wanted, RunOrder, Order, Run, Assemble, Disassemble, files_of, script_files, order_of}
-use Rattle.mw_cli.specs.Headline.{SpellsRun}
-use Rattle.mw_cli.specs.Verdict.{Output, TextOf, Bytes, IsOutput, Verdict, Writes, Refuses, status_by, first_of, second_of, text_by, run_by, verdict_by, with_script, unless_too_large, unless_bad, too_large_line, bad_line}
+use Rattle.mw_cli.specs.Headline.{AskedRun, Prints, SpellsRun}
+use Rattle.mw_cli.specs.Verdict.{Output, TextOf, Bytes, IsOutput, Verdict, Writes, Refuses, first_of, second_of, text_by, end_by, run_by, verdict_by, with_script, unless_too_large, unless_bad, too_large_line, bad_line}
+use Rattle.mw_cli.specs.Numbers.{ended}
 use Rattle.mw_cli.specs.Outside.{Change, contents_of, TookNothing, Took, TookFront}
 use Rattle.mw_cli.specs.Answers.{Call, ComesTo, Written, CutShort, OnOrder, Refused, Asks, IsUnanswered, Answers, verdict_with}
 use Rattle.mw_cli.specs.Stages.{IsContent, IsTooLong, IsStart, IsBadScript}
 use Rattle.mw_cli.proofs.FileLemmas.{Files}
-use Rattle.mw_cli.proofs.VerdictLemmas.{IsText, fits, too_long, starts, refused, script-from}
+use Rattle.mw_cli.proofs.EndLemmas.{OffendsBelow, ran-to, offended}
+use Rattle.mw_cli.proofs.VerdictLemmas.{IsText, fits, too_long, starts, refused, script-from, run-written}
 use Rattle.mw_cli.proofs.AnswerLemmas.{at_some}
 
 -- ---- Usage
@@ -33,6 +41,7 @@ no_order o P e h = subst (λ (v : Option Order). IsSomeAnd v P) e h
 -- where the words are no order Usage comes, or memory is wanting and out took nothing
 pub always-usage : (call : Call) (status : Status) → order_of call.words ≡ None → Answers call status → (status ≡ Usage) ⊎ ((status ≡ NoMemory) × TookNothing call.out)
 always-usage call Done none a = absurd (no_order _ _ none a.says.0)
+always-usage call Offence none a = absurd (no_order _ _ none a.says.0)
 always-usage call Usage none a = inl refl
 always-usage call ReadFault none a = absurd (no_order _ _ none a.says)
 always-usage call WriteFault none a = absurd (no_order _ _ none a.says.0)
@@ -66,6 +75,7 @@ risen before after came greater counts h = let e = counts.stays h in omega arith
 -- where the host's count is greater than before, ReadFault comes
 pub always-read-fault : (call : Call) (status : Status) → call.host.before.faults < call.host.after.faults → Answers call status → status ≡ ReadFault
 always-read-fault call Done greater a = absurd (risen _ _ _ greater a.faults.reads (λ (e : Done ≡ ReadFault). cc))
+always-read-fault call Offence greater a = absurd (risen _ _ _ greater a.faults.reads (λ (e : Offence ≡ ReadFault). cc))
 always-read-fault call Usage greater a = absurd (risen _ _ _ greater a.faults.reads (λ (e : Usage ≡ ReadFault). cc))
 always-read-fault call ReadFault greater a = refl
 always-read-fault call WriteFault greater a = absurd (risen _ _ _ greater a.faults.reads (λ (e : WriteFault ≡ ReadFault). cc))
@@ -76,6 +86,7 @@ always-read-fault call NoMemory greater a = absurd (risen _ _ _ greater a.faults
 -- where out's count of faults is greater than before, WriteFault comes
 pub always-write-fault : (call : Call) (status : Status) → call.out.before.faults < call.out.after.faults → Answers call status → status ≡ WriteFault
 always-write-fault call Done greater a = absurd (risen _ _ _ greater a.faults.writes (λ (e : Done ≡ WriteFault). cc))
+always-write-fault call Offence greater a = absurd (risen _ _ _ greater a.faults.writes (λ (e : Offence ≡ WriteFault). cc))
 always-write-fault call Usage greater a = absurd (risen _ _ _ greater a.faults.writes (λ (e : Usage ≡ WriteFault). cc))
 always-write-fault call ReadFault greater a = absurd (risen _ _ _ greater a.faults.writes (λ (e : ReadFault ≡ WriteFault). cc))
 always-write-fault call WriteFault greater a = refl
@@ -99,7 +110,10 @@ text-is (Some told) first (Some name) contents are = ap second_of are
 -- a verdict that is refused for length shows the length, or is refused so without it
 long-or-so : (image : List ℕ) (verdict : Verdict) (status : Status) (line : List ℕ) → unless_too_large image verdict ≡ Refuses status line → ((16777216 < length image) × (ImageTooLarge ≡ status)) ⊎ ((length image ≤ 16777216) × (verdict ≡ Refuses status line))
 long-or-so image verdict status line e = elim (cases_lt 16777216 (length image)) [
-  | inl long ↦ inl (long, ap status_by (sym (too_long image verdict long) ∙ e))
+  | inl long ↦
+      let same : Refuses ImageTooLarge too_large_line ≡ Refuses status line = sym (too_long image verdict long) ∙ e in
+      let is : ImageTooLarge ≡ status = cc in
+      inl (long, is)
   | inr short ↦ inr (short, sym (fits image verdict short) ∙ e)
 ]
 
@@ -163,17 +177,6 @@ run-bad host order line (contents, are, comes) = elim (long-or-so (first_of cont
 listing-bad : (host : Change HostState) (name line : List ℕ) → ComesTo host (Disassemble name) (Refuses BadInput line) → ⊥
 listing-bad host name line (contents, are, comes) = elim (long-or-so (first_of contents) _ BadInput line comes) [ inl (long, e) ↦ cc | inr (short, e) ↦ cc ]
 
--- what is written of a run that isn't refused is its text
-script-written : (name : List ℕ) (order : RunOrder) (image : List ℕ) (read : Result (List (ℕ × ℕ)) ScriptPlace) (output : Output) → with_script name read (λ script. Writes (TextOf (run_by order image script))) ≡ Writes output → (script : List (ℕ × ℕ)) × (read ≡ Ok script) × (output ≡ TextOf (run_by order image script))
-script-written name order image (Ok script) output e = (script, refl, cc)
-script-written name order image (Err place) output e = cc
-
-run-written : (order : RunOrder) (image text : List ℕ) (output : Output) → verdict_by order image text ≡ Writes output → (length image ≤ 16777216) × ((script : List (ℕ × ℕ)) × (script_of text ≡ Ok script) × (output ≡ TextOf (run_by order image script)))
-run-written order image text output e = elim (cases_lt 16777216 (length image)) [
-  | inl long ↦ let refused : Refuses ImageTooLarge too_large_line ≡ Writes output = sym (too_long image _ long) ∙ e in cc
-  | inr short ↦ (short, script-written (unwrap_or order.script []) order image (script_of text) output (sym (fits image _ short) ∙ e))
-]
-
 -- the text of a run that isn't refused is of a run of the image's content and the script's
 run-gives-text : (host : Change HostState) (order : RunOrder) (output : Output) (text : List ℕ) → ComesTo host (Run order) (Writes output) → IsOutput output text → (image : List ℕ) × (script : List (ℕ × ℕ)) × IsStart host order image script × SpellsRun (run_by order image script) text
 run-gives-text host order output text (contents, are, gives) is =
@@ -188,14 +191,82 @@ run-gives-text host order output text (contents, are, gives) is =
       subst (λ (o : Output). IsOutput o text) same is,
     )
 
--- ---- Done and WriteFault, of a run
+-- ---- Done, Offence and WriteFault, of a run
 
--- with Done out took a text of a run of the image and the script
-pub done-run : (call : Call) (order : RunOrder) → order_of call.words ≡ Some (Run order) → Answers call Done → (image : List ℕ) × (script : List (ℕ × ℕ)) × (text : List ℕ) × IsStart call.host order image script × SpellsRun (run_by order image script) text × Took call.out text
-done-run call order asked a =
-    let (text, (output, gives, is), took) = at_some (order_of call.words) (Written call.host call.out) (Run order) asked a.says.0 in
+-- out took a text of a run of the image and the script, whose end has this status
+abbrev RanWith : Call → RunOrder → Status → Type 0
+RanWith call order status = (image : List ℕ) × (script : List (ℕ × ℕ)) × (text : List ℕ) × IsStart call.host order image script × SpellsRun (run_by order image script) text × Took call.out text × (status ≡ ended (end_of text))
+
+-- a run that was carried out
+ran-with : (call : Call) (order : RunOrder) (status : Status) → order_of call.words ≡ Some (Run order) → OnOrder call (λ o. Written call.host call.out o status) → RanWith call order status
+ran-with call order status asked says =
+    let (text, (output, gives, is), took, ends) = at_some (order_of call.words) (λ (o : Order). Written call.host call.out o status) (Run order) asked says in
     let (image, script, start, spells) = run-gives-text call.host order output text gives is in
-    (image, script, text, start, spells, took)
+    (image, script, text, start, spells, took, ends)
+
+-- a text that spells a run has its end, which is one of so many cycles
+spelled-end : (run : AskedRun) (text : List ℕ) → SpellsRun run text → (end : End) × (end_of text ≡ Some end) × StopsBy run.cycles end
+spelled-end run text spells = run-spelled run.boot run.cycles text (Prints run text) spells (λ end last s runs prints. (end, s.end_is, runs.stops))
+
+-- with Done out took a text of a run of the image and the script, which ran to the number of cycles
+pub done-run : (call : Call) (order : RunOrder) → order_of call.words ≡ Some (Run order) → Answers call Done → (image : List ℕ) × (script : List (ℕ × ℕ)) × (text : List ℕ) × IsStart call.host order image script × SpellsRun (run_by order image script) text × Took call.out text × (end_of text ≡ Some (Ran order.cycles))
+done-run call order asked a =
+    let (image, script, text, start, spells, took, ends) = ran-with call order Done asked a.says.0 in
+    let (end, is, stops) = spelled-end (run_by order image script) text spells in
+    (image, script, text, start, spells, took, is ∙ ap Some (ran-to order.cycles end stops (ends ∙ ap ended is)))
+
+-- with Offence out took a text of a run of the image and the script, which ended with an offence below the number of cycles
+pub offence-run : (call : Call) (order : RunOrder) → order_of call.words ≡ Some (Run order) → Answers call Offence → (image : List ℕ) × (script : List (ℕ × ℕ)) × (text : List ℕ) × IsStart call.host order image script × SpellsRun (run_by order image script) text × Took call.out text × OffendsBelow order.cycles (end_of text)
+offence-run call order asked a =
+    let (image, script, text, start, spells, took, ends) = ran-with call order Offence asked a.says.0 in
+    let (end, is, stops) = spelled-end (run_by order image script) text spells in
+    (image, script, text, start, spells, took, offended order.cycles (end_of text) end is stops (ends ∙ ap ended is))
+
+-- what a sink took that tells its bytes is one text
+took-one : (taken after : Option (List ℕ)) (text other : List ℕ) → IsSome taken → after ≡ with_more taken text → after ≡ with_more taken other → text ≡ other
+took-one None after text other told e o = cc
+took-one (Some bytes) after text other told e o =
+    let same : Some (bytes ++ text) ≡ Some (bytes ++ other) = sym e ∙ o in
+    let both : bytes ++ text ≡ bytes ++ other = cc in
+    append_cancel_left bytes text other both
+
+-- where a run is answered with Done or Offence, it is that of the end of the text that out took, where out tells its bytes
+pub end-tells : (call : Call) (status : Status) (order : RunOrder) (text : List ℕ) → order_of call.words ≡ Some (Run order) → IsSome call.out.before.taken → Took call.out text → (status ≡ Done) ⊎ (status ≡ Offence) → Answers call status → status ≡ ended (end_of text)
+end-tells call Done order text asked told took either a =
+    let (image, script, other, start, spells, took_other, ends) = ran-with call order Done asked a.says.0 in
+    ends ∙ ap (λ (t : List ℕ). ended (end_of t)) (took-one call.out.before.taken call.out.after.taken other text told took_other took)
+end-tells call Offence order text asked told took either a =
+    let (image, script, other, start, spells, took_other, ends) = ran-with call order Offence asked a.says.0 in
+    ends ∙ ap (λ (t : List ℕ). ended (end_of t)) (took-one call.out.before.taken call.out.after.taken other text told took_other took)
+end-tells call Usage order text asked told took (inl e) a = cc
+end-tells call Usage order text asked told took (inr e) a = cc
+end-tells call ReadFault order text asked told took (inl e) a = cc
+end-tells call ReadFault order text asked told took (inr e) a = cc
+end-tells call WriteFault order text asked told took (inl e) a = cc
+end-tells call WriteFault order text asked told took (inr e) a = cc
+end-tells call ImageTooLarge order text asked told took (inl e) a = cc
+end-tells call ImageTooLarge order text asked told took (inr e) a = cc
+end-tells call BadInput order text asked told took (inl e) a = cc
+end-tells call BadInput order text asked told took (inr e) a = cc
+end-tells call NoMemory order text asked told took (inl e) a = cc
+end-tells call NoMemory order text asked told took (inr e) a = cc
+
+-- ---- an assembly and a disassembly never end with an offence
+
+-- where the words are an order without a run
+no-offence : (call : Call) (order : Order) → order_of call.words ≡ Some order → ((text : List ℕ) → end_by order text ≡ None) → Answers call Offence → ⊥
+no-offence call order asked none a =
+    let (text, gives, took, ends) = at_some (order_of call.words) (λ (o : Order). Written call.host call.out o Offence) order asked a.says.0 in
+    let same : Offence ≡ Done = ends ∙ ap ended (none text) in
+    cc
+
+pub no-offence-source : (call : Call) (source : List ℕ) → order_of call.words ≡ Some (Assemble source) → Answers call Offence → ⊥
+no-offence-source call source asked a = no-offence call (Assemble source) asked (λ text. refl) a
+
+pub no-offence-disassembly : (call : Call) (image : List ℕ) → order_of call.words ≡ Some (Disassemble image) → Answers call Offence → ⊥
+no-offence-disassembly call image asked a = no-offence call (Disassemble image) asked (λ text. refl) a
+
+-- ---- WriteFault, of a run
 
 -- with WriteFault out took a front of a text of a run of the image and the script
 pub cut-run : (call : Call) (order : RunOrder) → order_of call.words ≡ Some (Run order) → Answers call WriteFault → (image : List ℕ) × (script : List (ℕ × ℕ)) × (text : List ℕ) × IsStart call.host order image script × SpellsRun (run_by order image script) text × TookFront call.out text
@@ -266,9 +337,9 @@ always-bad-script call status order told name place asks short named bad a = a.e
 pub always-bad-input : (call : Call) (status : Status) (source : List ℕ) (told : List ℕ → Option (List ℕ)) (place : Place) → Asks call (Assemble source) told → assembled (content_of told source) ≡ Err place → Answers call status → (status ≡ BadInput) ⊎ IsUnanswered call status
 always-bad-input call status source told place asks bad a = a.exactly (Assemble source) told BadInput (bad_line source place.line place.column) asks (ap (unless_bad source) bad)
 
--- ---- an order that isn't refused is done where no call failed, unless memory is wanting
+-- ---- an order that isn't refused is done where no call failed, or its run ends with an offence, unless memory is wanting
 
-pub complete-run : (call : Call) (status : Status) (order : RunOrder) (told : List ℕ → Option (List ℕ)) (script : List (ℕ × ℕ)) → Asks call (Run order) told → length (content_of told order.image) ≤ 16777216 → script_of (script_text told order.script) ≡ Ok script → ¬ (Rose call.host.before.faults call.host.after.faults) → ¬ (Rose call.out.before.faults call.out.after.faults) → Answers call status → (status ≡ Done) ⊎ (status ≡ NoMemory)
+pub complete-run : (call : Call) (status : Status) (order : RunOrder) (told : List ℕ → Option (List ℕ)) (script : List (ℕ × ℕ)) → Asks call (Run order) told → length (content_of told order.image) ≤ 16777216 → script_of (script_text told order.script) ≡ Ok script → ¬ (Rose call.host.before.faults call.host.after.faults) → ¬ (Rose call.out.before.faults call.out.after.faults) → Answers call status → ((status ≡ Done) ⊎ (status ≡ Offence)) ⊎ (status ≡ NoMemory)
 complete-run call status order told script asks short read host out a = a.complete (Run order) told (TextOf (run_by order (content_of told order.image) script)) asks (comes-to order told script short read) host out
 
 pub complete-source : (call : Call) (status : Status) (source : List ℕ) (told : List ℕ → Option (List ℕ)) (bytes : List ℕ) → Asks call (Assemble source) told → assembled (content_of told source) ≡ Ok bytes → ¬ (Rose call.host.before.faults call.host.after.faults) → ¬ (Rose call.out.before.faults call.out.after.faults) → Answers call status → (status ≡ Done) ⊎ (status ≡ NoMemory)

@@ -1,18 +1,20 @@
 -- How far a host goes through the files of an order.
-use Rattle.std.proofs.Common.{◌≡◌, ℕ, ◌≤◌, inl, List, [], ◌∷◌, length, Option, Some, Result, Ok, Err, IfErr, IfSome, refl, sym, subst, arith, append-nil}
+use Rattle.std.proofs.Common.{◌≡◌, ℕ, ◌≤◌, inl, List, [], ◌∷◌, length, Option, Some, Result, Ok, Err, IfErr, IfSome, refl, sym, ◌∙◌, subst, arith, append-nil}
 use Rattle.std.specs.Option.{option_map_or}
+use Rattle.mw_isa.specs.declared.event.End.{End}
 use Rattle.mw_io.specs.Outside.{HostState, RoseBy, IsReadOn, content_of}
 use Rattle.mw_cli.specs.declared.status.Status.{Status}
-use Rattle.mw_cli.specs.declared.status.Status.TheVariants.{Done, ImageTooLarge}
+use Rattle.mw_cli.specs.declared.status.Status.TheVariants.{Done, Offence, ImageTooLarge}
 use Rattle.mw_cli.specs.declared.refusal.Refusal.{Refusal}
 use Rattle.mw_cli.specs.declared.refusal.Refusal.TheVariants.{Unreadable, Unwritable, TooLarge, Bad, OutOfMemory}
 use Rattle.mw_uart.specs.Script.{text_limit}
 use Rattle.mw_cli.specs.Command.{Wanted, Order, script_files, files_of, files_by, order_of}
-use Rattle.mw_cli.specs.Numbers.{status_of}
+use Rattle.mw_cli.specs.Numbers.{status_of, ended}
 use Rattle.mw_cli.specs.Outside.{Change, change, Opens, IsLeft, reach}
 use Rattle.mw_cli.specs.Answers.{Goes}
 use Rattle.mw_cli.specs.Stages.{ending, IsRunRefusal, IsScriptRefusal}
 use Rattle.mw_cli.proofs.FileLemmas.{Files}
+use Rattle.mw_cli.proofs.EndLemmas.{ended-other}
 
 -- a host that opened all files went as far as the status says, if with ImageTooLarge there is one file at most
 pub goes-all : (host : Change HostState) (files : List Wanted) (status : Status) → Opens host files → (status ≡ ImageTooLarge → length files ≤ 1) → Goes host files status
@@ -50,9 +52,14 @@ run-other (Bad name line column) cause e = absurd cause
 run-other Unwritable cause e = absurd cause
 run-other OutOfMemory cause e = cc
 
-pub goes-run : (host : Change HostState) (files : List Wanted) (r : Result (List ℕ) Refusal) → IfErr r IsRunRefusal → Goes host files Done → Goes host files (ending r)
-goes-run host files (Ok text) cause goes = goes
+pub goes-run : {T : Type 0} (host : Change HostState) (files : List Wanted) (r : Result T Refusal) → IfErr r IsRunRefusal → Goes host files Done → Goes host files (ending r)
+goes-run host files (Ok value) cause goes = goes
 goes-run host files (Err refusal) cause goes = goes-on host files (status_of refusal) (run-other refusal cause) goes
+
+-- an order that was carried out, whatever the end of its run
+pub goes-ended : (host : Change HostState) (files : List Wanted) (end : Option End) (status : Status) → status ≡ ended end → Goes host files Done → Goes host files status
+goes-ended host files end status is goes =
+    goes-on host files status (λ e. ended-other end ImageTooLarge (λ (d : Done ≡ ImageTooLarge). cc) (λ (o : Offence ≡ ImageTooLarge). cc) (sym is ∙ e)) goes
 
 -- a script that isn't there isn't refused as ImageTooLarge
 pub script-other : (host : Change HostState) (name : List ℕ) (refusal : Refusal) → IsScriptRefusal host name refusal → status_of refusal ≡ ImageTooLarge → ⊥

@@ -2,6 +2,7 @@ pub mod CommandLemmas
 pub mod WritingLemmas
 pub mod FileLemmas
 pub mod RunLemmas
+pub mod EndLemmas
 pub mod AssemblyLemmas
 pub mod ScriptLemmas
 pub mod GoesLemmas

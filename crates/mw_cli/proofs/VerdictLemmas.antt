@@ -1,6 +1,6 @@
 -- What an order comes to, from what its part found.
-use Rattle.std.proofs.Common.{◌≡◌, ℕ, ◌<◌, ◌≤◌, Bool, cond, List, [], ◌∷◌, length, Option, Some, None, Result, Ok, Err, IfOk, IfErr, IfSome, IsSomeAnd, IsTrue, option_map, slice_get, unwrap_or, refl, sym, ap, ap₂, ◌∙◌, subst, arith}
-use Rattle.std.proofs.lemmas.Bool.{lt-ltb, le-ltb}
+use Rattle.std.proofs.Common.{◌≡◌, ℕ, inl, inr, ◌<◌, ◌≤◌, Bool, cond, List, [], ◌∷◌, length, Option, Some, None, Result, Ok, Err, IfOk, IfErr, IfSome, IsSomeAnd, IsTrue, option_map, slice_get, unwrap_or, refl, sym, ap, ap₂, ◌∙◌, subst, arith}
+use Rattle.std.proofs.lemmas.Bool.{lt-ltb, le-ltb, cases_lt}
 use Rattle.mw_io.specs.Outside.{HostState, Counts, RoseBy, content_of}
 use Rattle.mw_asm.specs.declared.fault.Place.{Place}
 use Rattle.mw_asm.specs.Assembled.{assembled}
@@ -8,10 +8,12 @@ use Rattle.mw_asm.specs.Disassembly.{disassembly}
 use Rattle.mw_cli.specs.declared.status.Status.TheVariants.{Done, ReadFault, ImageTooLarge, BadInput}
 use Rattle.mw_cli.specs.declared.refusal.Refusal.{Refusal}
 use Rattle.mw_cli.specs.declared.refusal.Refusal.TheVariants.{Unreadable, Unwritable, TooLarge, Bad, OutOfMemory}
+use Rattle.mw_cli.specs.declared.product.Product.{Product}
 use Rattle.mw_cli.specs.Command.{RunOrder, Order, Run, Assemble, Disassemble, Wanted, files_of, script_files}
 use Rattle.mw_cli.specs.Headline.{SpellsRun}
-use Rattle.mw_cli.specs.Verdict.{TextOf, Bytes, Verdict, Writes, Refuses, first_of, text_by, run_by, verdict_by, verdict_of, with_script, unless_too_large, unless_bad, too_large_line, bad_line}
+use Rattle.mw_cli.specs.Verdict.{Output, TextOf, Bytes, Verdict, Writes, Refuses, first_of, text_by, run_by, verdict_by, verdict_of, with_script, unless_too_large, unless_bad, too_large_line, bad_line}
 use Rattle.mw_cli.specs.Outside.{Change, change, contents_of}
+use Rattle.mw_cli.specs.Numbers.{status_of}
 use Rattle.mw_cli.specs.Answers.{ComesTo, Gives, IsUnread}
 use Rattle.mw_cli.specs.Stages.{ending, IsContent, IsAbsent, IsReadRefusal, IsLoadRefusal, IsScriptOf, IsStart, IsScriptRefusal, IsRunRefusal, GivesNothing}
 use Rattle.mw_bus.specs.Memory.{ram_size}
@@ -77,6 +79,17 @@ pub starts : (order : RunOrder) (image text : List ℕ) (script : List (ℕ × �
 starts order image text script short read =
     fits image _ short
     ∙ ap (λ (r : Result (List (ℕ × ℕ)) ScriptPlace). with_script (unwrap_or order.script []) r (λ s. Writes (TextOf (run_by order image s)))) read
+
+-- what is written of a run that isn't refused is its text
+script-written : (name : List ℕ) (order : RunOrder) (image : List ℕ) (read : Result (List (ℕ × ℕ)) ScriptPlace) (output : Output) → with_script name read (λ script. Writes (TextOf (run_by order image script))) ≡ Writes output → (script : List (ℕ × ℕ)) × (read ≡ Ok script) × (output ≡ TextOf (run_by order image script))
+script-written name order image (Ok script) output e = (script, refl, cc)
+script-written name order image (Err place) output e = cc
+
+pub run-written : (order : RunOrder) (image text : List ℕ) (output : Output) → verdict_by order image text ≡ Writes output → (length image ≤ 16777216) × ((script : List (ℕ × ℕ)) × (script_of text ≡ Ok script) × (output ≡ TextOf (run_by order image script)))
+run-written order image text output e = elim (cases_lt 16777216 (length image)) [
+  | inl long ↦ let refused : Refuses ImageTooLarge too_large_line ≡ Writes output = sym (too_long image _ long) ∙ e in cc
+  | inr short ↦ (short, script-written (unwrap_or order.script []) order image (script_of text) output (sym (fits image _ short) ∙ e))
+]
 
 -- a run gives its text
 gives-run : (host : Change HostState) (order : RunOrder) (image : List ℕ) (script : List (ℕ × ℕ)) (text : List ℕ) → IsStart host order image script → SpellsRun (run_by order image script) text → Gives host (Run order) text
@@ -181,12 +194,12 @@ run-stops host order Unwritable cause = absurd cause
 run-stops host order OutOfMemory cause = tt
 
 -- what a run gives, and why it gives nothing
-pub run-gives : (host : Change HostState) (order : RunOrder) (image : List ℕ) (script : List (ℕ × ℕ)) (r : Result (List ℕ) Refusal) → IsStart host order image script → IfOk r (SpellsRun (run_by order image script)) → IfOk r (Gives host (Run order))
-run-gives host order image script (Ok text) start spells = gives-run host order image script text start spells
+pub run-gives : (host : Change HostState) (order : RunOrder) (image : List ℕ) (script : List (ℕ × ℕ)) (r : Result Product Refusal) → IsStart host order image script → IfOk r (λ product. SpellsRun (run_by order image script) product.bytes) → IfOk r (λ product. Gives host (Run order) product.bytes)
+run-gives host order image script (Ok product) start spells = gives-run host order image script product.bytes start spells
 run-gives host order image script (Err refusal) start spells = tt
 
-pub run-refused : (host : Change HostState) (order : RunOrder) (r : Result (List ℕ) Refusal) → IfErr r IsRunRefusal → IfErr r (GivesNothing host (Run order))
-run-refused host order (Ok text) cause = tt
+pub run-refused : {T : Type 0} (host : Change HostState) (order : RunOrder) (r : Result T Refusal) → IfErr r IsRunRefusal → IfErr r (GivesNothing host (Run order))
+run-refused host order (Ok value) cause = tt
 run-refused host order (Err refusal) cause = run-stops host order refusal cause
 
 -- a count that stays, where its cause didn't come
@@ -198,13 +211,13 @@ pub stayed : (before after : ℕ) → Counts before after (Done ≡ ReadFault) �
 stayed before after counts = counts.stays (λ (e : Done ≡ ReadFault). cc)
 
 -- a run that has no text didn't fail to read
-run-read : (refusal : Refusal) → IsRunRefusal refusal → ending {T = List ℕ} (Err refusal) ≡ ReadFault → ⊥
+run-read : (refusal : Refusal) → IsRunRefusal refusal → status_of refusal ≡ ReadFault → ⊥
 run-read (Unreadable which) cause e = absurd cause
 run-read TooLarge cause e = absurd cause
 run-read (Bad name line column) cause e = absurd cause
 run-read Unwritable cause e = absurd cause
 run-read OutOfMemory cause e = cc
 
-pub run-calm : (before after : ℕ) (r : Result (List ℕ) Refusal) → after ≡ before → IfErr r IsRunRefusal → Counts before after (ending r ≡ ReadFault)
-run-calm before after (Ok text) e cause = calm before after (Done ≡ ReadFault) e (λ (same : Done ≡ ReadFault). cc)
-run-calm before after (Err refusal) e cause = calm before after (ending {T = List ℕ} (Err refusal) ≡ ReadFault) e (run-read refusal cause)
+pub run-calm : {T : Type 0} (before after : ℕ) (r : Result T Refusal) → after ≡ before → IfErr r IsRunRefusal → Counts before after (ending r ≡ ReadFault)
+run-calm before after (Ok value) e cause = calm before after (Done ≡ ReadFault) e (λ (same : Done ≡ ReadFault). cc)
+run-calm before after (Err refusal) e cause = calm before after (status_of refusal ≡ ReadFault) e (run-read refusal cause)

@@ -4,11 +4,11 @@ use Rattle.std.specs.Process.{exit_status}
 use Rattle.std.specs.declared.process.ExitCode.{ExitCode}
 use Rattle.mw_io.specs.Outside.{HostState, SinkState, Counts, Rose, RoseBy}
 use Rattle.mw_cli.specs.declared.status.Status.{Status}
-use Rattle.mw_cli.specs.declared.status.Status.TheVariants.{Done, Usage, ReadFault, WriteFault, ImageTooLarge, BadInput, NoMemory}
+use Rattle.mw_cli.specs.declared.status.Status.TheVariants.{Done, Offence, Usage, ReadFault, WriteFault, ImageTooLarge, BadInput, NoMemory}
 use Rattle.mw_cli.specs.Command.{Wanted, Order, files_of, files_by, order_of}
-use Rattle.mw_cli.specs.Verdict.{Output, IsOutput, Verdict, Writes, Refuses, status_by, verdict_of}
+use Rattle.mw_cli.specs.Verdict.{Output, IsOutput, Verdict, Writes, Refuses, MayEnd, MayGive, end_by, verdict_of}
 use Rattle.mw_cli.specs.Outside.{Change, contents_of, AreContents, Opens, TookNothing, Took, TookFront, TookUnlessFault}
-use Rattle.mw_cli.specs.Numbers.{number_of}
+use Rattle.mw_cli.specs.Numbers.{number_of, ended}
 
 -- a call: its words, the host, out and err
 pub record Call : Type 0 where
@@ -41,9 +41,9 @@ ComesTo host order verdict = (contents : List (List ℕ)) × AreContents host (f
 abbrev pub Gives : Change HostState → Order → List ℕ → Type 0
 Gives host order text = (output : Output) × ComesTo host order (Writes output) × IsOutput output text
 
--- out took what is ordered
-abbrev pub Written : Change HostState → Change SinkState → Order → Type 0
-Written host out order = (text : List ℕ) × Gives host order text × Took out text
+-- out took what is ordered, and the status is that of the end of the run that the text is of
+abbrev pub Written : Change HostState → Change SinkState → Order → Status → Type 0
+Written host out order status = (text : List ℕ) × Gives host order text × Took out text × (status ≡ ended (end_by order text))
 
 -- out took a front of what is ordered, and not all
 abbrev pub CutShort : Change HostState → Change SinkState → Order → Type 0
@@ -65,9 +65,14 @@ OnlyTold call line = TookNothing call.out × TookUnlessFault call.err line
 abbrev pub Refused : Call → Status → Type 0
 Refused call status = OnOrder call (λ order. (line : List ℕ) × ComesTo call.host order (Refuses status line) × OnlyTold call line)
 
+-- the words are an order, out took what is ordered and err nothing, and the status is that of its end
+abbrev pub Obeyed : Call → Status → Type 0
+Obeyed call status = OnOrder call (λ order. Written call.host call.out order status) × TookNothing call.err
+
 -- what a status says
 abbrev pub Says : Call → Status → Type 0
-Says call Done = OnOrder call (Written call.host call.out) × TookNothing call.err
+Says call Done = Obeyed call Done
+Says call Offence = Obeyed call Offence
 Says call Usage = (order_of call.words ≡ None) × OnlyTold call usage_line
 Says call ReadFault = OnOrder call (λ order. (name : List ℕ) × IsUnread call.host order name × OnlyTold call (unread_line name))
 Says call WriteFault = OnOrder call (CutShort call.host call.out) × TookUnlessFault call.err unwritten_line
@@ -106,16 +111,17 @@ pub record Answers (call : Call) (status : Status) : Type 0 where
   pub faults : Faults call.host call.out status
   -- a refusal comes wherever the order comes to it, unless a call of the host failed or memory is wanting
   pub exactly : (order : Order) (told : List ℕ → Option (List ℕ)) (refused : Status) (line : List ℕ) → Asks call order told → verdict_with told order ≡ Refuses refused line → (status ≡ refused) ⊎ IsUnanswered call status
-  -- any other order is done where no call of the host and no write to out failed, unless memory is wanting
-  pub complete : (order : Order) (told : List ℕ → Option (List ℕ)) (output : Output) → Asks call order told → verdict_with told order ≡ Writes output → ¬ (Rose call.host.before.faults call.host.after.faults) → ¬ (Rose call.out.before.faults call.out.after.faults) → (status ≡ Done) ⊎ (status ≡ NoMemory)
+  -- any other order is done, or its run ends with an offence, where no call of the host and no write to out failed, unless
+  -- memory is wanting
+  pub complete : (order : Order) (told : List ℕ → Option (List ℕ)) (output : Output) → Asks call order told → verdict_with told order ≡ Writes output → ¬ (Rose call.host.before.faults call.host.after.faults) → ¬ (Rose call.out.before.faults call.out.after.faults) → MayEnd output status ⊎ (status ≡ NoMemory)
   -- over a sound host that has the files, and an out of which no write failed, what the order comes to is the answer,
   -- unless memory is wanting
-  pub sound : (order : Order) (told : List ℕ → Option (List ℕ)) → Asks call order told → IsTrue call.host.before.is_sound → AreThere told order → ¬ (Rose call.out.before.faults call.out.after.faults) → (status ≡ status_by (verdict_with told order)) ⊎ (status ≡ NoMemory)
+  pub sound : (order : Order) (told : List ℕ → Option (List ℕ)) → Asks call order told → IsTrue call.host.before.is_sound → AreThere told order → ¬ (Rose call.out.before.faults call.out.after.faults) → MayGive (verdict_with told order) status ⊎ (status ≡ NoMemory)
 
 -- how far a call that ends with this status goes through its files: some are opened, in order, and the others aren't
 pub record GoesFar (status : Status) (opened others : List Wanted) : Type 0 where
-  -- with Done and WriteFault the call goes to the last file
-  pub to_last : (status ≡ Done) ⊎ (status ≡ WriteFault) → others ≡ []
+  -- with Done, Offence and WriteFault the call goes to the last file
+  pub to_last : (status ≡ Done) ⊎ ((status ≡ Offence) ⊎ (status ≡ WriteFault)) → others ≡ []
   -- with ImageTooLarge the call goes no further than to the first file
   pub no_further : status ≡ ImageTooLarge → length opened ≤ 1
   -- with any other status but NoMemory the call goes at least to the first file

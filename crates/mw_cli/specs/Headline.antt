@@ -8,6 +8,7 @@ use Rattle.mw_isa.specs.declared.event.Event.{Event}
 use Rattle.mw_isa.specs.declared.event.End.{End}
 use Rattle.mw_isa.specs.State.{State}
 use Rattle.mw_isa.specs.Start.{Boot}
+use Rattle.mw_isa.specs.Stops.{stop_of}
 use Rattle.mw_isa.specs.Replay.{cycles_of}
 use Rattle.mw_isa.specs.Text.{text_of}
 use Rattle.mw_isa.specs.Reading.{OnRun}
@@ -26,8 +27,8 @@ run_of image script cycles dump = record { boot = record { image = image; script
 pub record Prints (run : AskedRun) (text : List ℕ) (events : List Event) (end : End) (last : State) : Type 0 where
   -- the text is that of the run's events and end, with the dump that is asked for, and no more
   pub whole : text ≡ text_of events end last run.dump
-  -- event k has cycle k
-  pub each_cycle : cycles_of events ≡ range_with_len 0 run.cycles
+  -- event k has cycle k, up to the stop
+  pub each_cycle : cycles_of events ≡ range_with_len 0 (stop_of end)
 
 -- the text is printed of this run, whose events and end stand in it
 abbrev pub SpellsRun : AskedRun → List ℕ → Type 0

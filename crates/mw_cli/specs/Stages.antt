@@ -26,6 +26,11 @@ abbrev pub ending : {T : Type 0} → Result T Refusal → Status
 ending (Ok value) = Done
 ending (Err refusal) = status_of refusal
 
+-- the status that a call comes to whose order was carried out with one, or refused
+abbrev pub final : Result Status Refusal → Status
+final (Ok status) = status
+final (Err refusal) = status_of refusal
+
 -- these are the bytes of the file of this name, where the host tells its files
 abbrev pub IsContent : Change HostState → List ℕ → List ℕ → Type 0
 IsContent host name bytes = IfSome host.before.files (λ told. bytes ≡ content_of told name)

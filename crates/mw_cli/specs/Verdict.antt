@@ -1,12 +1,14 @@
 -- What an order comes to, given what its files have.
-use Rattle.std.specs.Prelude.{ℕ, ◌≡◌, if◌then◌else◌, nat_lt, List, [], ◌∷◌, ◌++◌, length, Option, Some, None, unwrap_or, Result, Ok, Err, codes, decimal}
+use Rattle.std.specs.Prelude.{ℕ, ◌≡◌, ◌⊎◌, if◌then◌else◌, nat_lt, List, [], ◌∷◌, ◌++◌, length, Option, Some, None, unwrap_or, Result, Ok, Err, codes, decimal}
 use Rattle.mw_bus.specs.Memory.{ram_size}
 use Rattle.mw_uart.specs.Script.{Place as ScriptPlace, script_of}
+use Rattle.mw_isa.specs.declared.event.End.{End}
+use Rattle.mw_isa.specs.Reading.{end_of}
 use Rattle.mw_asm.specs.declared.fault.Place.{Place}
 use Rattle.mw_asm.specs.Assembled.{assembled}
 use Rattle.mw_asm.specs.Disassembly.{disassembly}
 use Rattle.mw_cli.specs.declared.status.Status.{Status}
-use Rattle.mw_cli.specs.declared.status.Status.TheVariants.{Done, ImageTooLarge, BadInput}
+use Rattle.mw_cli.specs.declared.status.Status.TheVariants.{Done, Offence, ImageTooLarge, BadInput}
 use Rattle.mw_cli.specs.Command.{RunOrder, Order, Run, Assemble, Disassemble}
 use Rattle.mw_cli.specs.Headline.{AskedRun, run_of, SpellsRun}
 
@@ -37,10 +39,21 @@ pub data Verdict : Type 0 where
   Writes : Output → Verdict
   Refuses : Status → List ℕ → Verdict
 
--- the status of a verdict
-abbrev pub status_by : Verdict → Status
-status_by (Writes output) = Done
-status_by (Refuses status line) = status
+-- an output that is written may have this status: Done, and the text of a run Offence too
+abbrev pub MayEnd : Output → Status → Type 0
+MayEnd (TextOf run) status = (status ≡ Done) ⊎ (status ≡ Offence)
+MayEnd (Bytes bytes) status = status ≡ Done
+
+-- a verdict may have this status: a refusal its own alone
+abbrev pub MayGive : Verdict → Status → Type 0
+MayGive (Writes output) status = MayEnd output status
+MayGive (Refuses refused line) status = status ≡ refused
+
+-- the end of the run that an order asks for, by the text that is written of it
+abbrev pub end_by : Order → List ℕ → Option End
+end_by (Run order) text = end_of text
+end_by (Assemble source) text = None
+end_by (Disassemble image) text = None
 
 -- the first of the files' contents
 abbrev pub first_of : List (List ℕ) → List ℕ

@@ -6,6 +6,7 @@ mod command;
 mod disassembly;
 mod main_call;
 mod process;
+mod product;
 mod refusal;
 mod report;
 mod run;

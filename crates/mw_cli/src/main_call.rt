@@ -1,21 +1,22 @@
-ghost use Rattle.std.specs.Prelude.{◌≡◌, map, string_bytes, OnOk, IfOk, IfErr, IsTrue};
+ghost use Rattle.std.specs.Prelude.{◌≡◌, map, string_bytes, IfOk, IfErr, IsTrue};
 ghost use Rattle.mw_io.specs.Outside.{Counts};
 ghost use Rattle.mw_cli.specs.declared.status.Status.TheVariants.{ReadFault};
 ghost use Rattle.mw_cli.specs.Command.{order_in, order_of, files_of, IsBounded};
+ghost use Rattle.mw_cli.specs.Verdict.{end_by};
 ghost use Rattle.mw_cli.specs.Outside.{change};
 ghost use Rattle.mw_cli.specs.Numbers.{status_of};
 ghost use Rattle.mw_cli.specs.Answers.{Gives, Goes, Written, Says, Faults, Answers, GoesThrough};
-ghost use Rattle.mw_cli.specs.Stages.{ending, GivesNothing, HasCause};
+ghost use Rattle.mw_cli.specs.Stages.{ending, final, GivesNothing, HasCause};
 
 use crate::assembly::image_of;
 use crate::command::{Command, read_words};
 use crate::disassembly::listing_of;
+use crate::product::Product;
 use crate::refusal::Refusal;
 use crate::report::{report, report_usage};
 use crate::run::run;
-use crate::status::Status;
+use crate::status::{Status, ended};
 use crate::transfer::write_out;
-use mw_bits::Bytes;
 use mw_io::{Host, Sink};
 use std::alloc::Global;
 
@@ -32,14 +33,15 @@ fn status_of(refusal: Refusal<'_>) -> Status
     }
 }
 
-/// What a command writes. An `Err` says why there is nothing to write.
+/// What a command writes, and the end of its run. An `Err` says why there is nothing to write.
 fn output_of<'a, H: Host>(
     alloc: Global,
     command: &Command<'a>,
     host: &mut H,
-) -> Result<Bytes, Refusal<'a>>
+) -> Result<Product, Refusal<'a>>
     requires bounded { IsBounded command.now }
-    ensures gives { IfOk result (Gives (change (H.state host.old) (H.state host.new)) (order_in command.now)) }
+    ensures gives { IfOk result (λ product. Gives (change (H.state host.old) (H.state host.new)) (order_in command.now) product.bytes) }
+    ensures end { IfOk result (λ product. product.end ≡ end_by (order_in command.now) product.bytes) }
     ensures refused { IfErr result (GivesNothing (change (H.state host.old) (H.state host.new)) (order_in command.now)) }
     ensures faults { Counts (H.state host.old).faults (H.state host.new).faults (ending result ≡ ReadFault) }
     ensures goes { Goes (change (H.state host.old) (H.state host.new)) (files_of (order_in command.now)) (ending result) }
@@ -48,33 +50,40 @@ fn output_of<'a, H: Host>(
 {
     match command {
         Command::Run(command) => run(alloc, command, host),
-        Command::Assemble { source } => image_of(alloc, *source, host),
-        Command::Disassemble { image } => listing_of(alloc, *image, host),
+        Command::Assemble { source } => match image_of(alloc, *source, host) {
+            Ok(bytes) => Ok(Product { bytes, end: None }),
+            Err(refusal) => Err(refusal),
+        },
+        Command::Disassemble { image } => match listing_of(alloc, *image, host) {
+            Ok(bytes) => Ok(Product { bytes, end: None }),
+            Err(refusal) => Err(refusal),
+        },
     }
 }
 
-/// Does what a command asks for: writes its output to out, all at the end. An `Err` says what failed. Out took nothing
-/// before the output was whole, and after `Unwritable` or `OutOfMemory` it may have taken a front of it.
+/// Does what a command asks for: writes its output to out, all at the end, and answers how it ended. An `Err` says what
+/// failed. Out took nothing before the output was whole, and after `Unwritable` or `OutOfMemory` it may have taken a
+/// front of it.
 fn fulfil<'a, H: Host, S: Sink>(
     alloc: Global,
     command: &Command<'a>,
     host: &mut H,
     out: &mut S,
-) -> Result<(), Refusal<'a>>
+) -> Result<Status, Refusal<'a>>
     requires bounded { IsBounded command.now }
-    ensures written { OnOk result (Written (change (H.state host.old) (H.state host.new)) (change (S.state out.old) (S.state out.new)) (order_in command.now)) }
+    ensures written { IfOk result (Written (change (H.state host.old) (H.state host.new)) (change (S.state out.old) (S.state out.new)) (order_in command.now)) }
     ensures refused { IfErr result (HasCause (change (H.state host.old) (H.state host.new)) (change (S.state out.old) (S.state out.new)) (order_in command.now)) }
-    ensures faults { Faults (change (H.state host.old) (H.state host.new)) (change (S.state out.old) (S.state out.new)) (ending result) }
-    ensures goes { Goes (change (H.state host.old) (H.state host.new)) (files_of (order_in command.now)) (ending result) }
+    ensures faults { Faults (change (H.state host.old) (H.state host.new)) (change (S.state out.old) (S.state out.new)) (final result) }
+    ensures goes { Goes (change (H.state host.old) (H.state host.new)) (files_of (order_in command.now)) (final result) }
     ensures same_files { (H.state host.new).files ≡ (H.state host.old).files }
     ensures stays_sound { IsTrue (H.state host.old).is_sound → IsTrue (H.state host.new).is_sound }
 {
-    let output = match output_of(alloc, command, host) {
-        Ok(output) => output,
+    let product = match output_of(alloc, command, host) {
+        Ok(product) => product,
         Err(refusal) => return Err(refusal),
     };
-    match write_out(out, output.as_slice()) {
-        Ok(()) => Ok(()),
+    match write_out(out, product.bytes.as_slice()) {
+        Ok(()) => Ok(ended(product.end)),
         Err(refusal) => Err(refusal),
     }
 }
@@ -108,7 +117,7 @@ fn obey<H: Host, O: Sink, E: Sink>(
         return Status::Usage;
     };
     match fulfil(alloc, &command, host, out) {
-        Ok(()) => Status::Done,
+        Ok(status) => status,
         Err(refusal) => {
             report(err, refusal);
             status_of(refusal)
@@ -117,15 +126,16 @@ fn obey<H: Host, O: Sink, E: Sink>(
 }
 
 /// Does what the words behind the program's name ask for, and answers how the program ends. `run IMAGE --cycles N`
-/// reads the image from the host, 16,777,216 bytes at most, runs it from address 0 for N cycles, at most 4,000,000, and
-/// writes the text of the run to out. `--dump A:L` behind it adds the L bytes of RAM from real address A on, as the run
-/// leaves them: at least one byte and at most 65,536, all of them in RAM. `--script FILE` behind both has a script read from
-/// the host behind the image, 1,048,576 bytes at most, whose bytes arrive at the UART; without it none does. `asm SOURCE` reads the source from the host,
-/// 4,194,304 bytes at most, and writes the bytes of its image to out. `dis IMAGE` reads the image as `run` does, and
-/// writes the text of its disassembly to out. Reading stops one byte past the file's limit. `Done` leaves err as it was,
-/// and any other status writes its line there, or a front of it where a write to err fails; the status stays what it is.
-/// Out takes nothing under another status, but for `WriteFault` and `NoMemory`, which may leave a front of the text or
-/// of the image, and never all of it.
+/// reads the image from the host, 16,777,216 bytes at most, runs it from address 0 for N cycles, at most 4,000,000, or up
+/// to an instruction that breaks the update discipline, and writes the text of the run to out. `--dump A:L` behind it adds
+/// the L bytes of RAM from real address A on, as the run leaves them: at least one byte and at most 65,536, all of them in
+/// RAM. `--script FILE` behind both has a script read from the host behind the image, 1,048,576 bytes at most, whose bytes
+/// arrive at the UART; without it none does. `asm SOURCE` reads the source from the host, 4,194,304 bytes at most, and
+/// writes the bytes of its image to out. `dis IMAGE` reads the image as `run` does, and writes the text of its disassembly
+/// to out. Reading stops one byte past the file's limit. The status is `Offence` where the run ended with one, and `Done`
+/// where it reached N. Both leave err as it was, and any other status writes its line there, or a front of it where a
+/// write to err fails; the status stays what it is. Out takes nothing under another status, but for `WriteFault` and
+/// `NoMemory`, which may leave a front of the text or of the image, and never all of it.
 pub fn mw_main<H: Host, O: Sink, E: Sink>(
     alloc: Global,
     words: &[String],

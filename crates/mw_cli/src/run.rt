@@ -1,5 +1,6 @@
 ghost use Rattle.std.specs.Prelude.{◌≡◌, ◌+◌, ◌≤◌, length, IfOk, IfErr, IfSome, IsTrue};
 ghost use Rattle.mw_bus.specs.Memory.{ram_size};
+ghost use Rattle.mw_isa.specs.Reading.{end_of};
 ghost use Rattle.mw_cli.specs.Command.{Run, run_in, files_of, IsInRam};
 ghost use Rattle.mw_cli.specs.Headline.{run_of, SpellsRun};
 ghost use Rattle.mw_io.specs.Outside.{Counts};
@@ -9,10 +10,10 @@ ghost use Rattle.mw_cli.specs.Answers.{Gives, Goes};
 ghost use Rattle.mw_cli.specs.Stages.{ending, IsRunRefusal, GivesNothing, IsStart};
 
 use crate::command::RunCommand;
+use crate::product::Product;
 use crate::refusal::Refusal;
 use crate::script::script_of_file;
 use crate::transfer::read_image;
-use mw_bits::Bytes;
 use mw_board::{RunFault, simulate};
 use mw_io::Host;
 use mw_isa::Span;
@@ -29,18 +30,19 @@ struct Start {
     script: Script,
 }
 
-/// The text of a run of an image and a script. An `Err` says that memory is wanting.
+/// The text of a run of an image and a script, and the run's end. An `Err` says that memory is wanting.
 fn text_of_run<'a>(
     alloc: Global,
     image: &[u8],
     script: &Script,
     cycles: u64,
     dump: Option<Span>,
-) -> Result<Bytes, Refusal<'a>>
+) -> Result<Product, Refusal<'a>>
     requires fits { length image.now ≤ ram_size }
     requires few { cycles ≤ 4000000 }
     requires room { IfSome dump (λ span. span.at + span.len ≤ ram_size) }
-    ensures text { IfOk result (SpellsRun (run_of image.now script.now cycles dump)) }
+    ensures text { IfOk result (λ product. SpellsRun (run_of image.now script.now cycles dump) product.bytes) }
+    ensures end { IfOk result (λ product. product.end ≡ end_of product.bytes) }
     ensures refused { IfErr result IsRunRefusal }
 {
     let run = match simulate(alloc, image, script, cycles) {
@@ -49,7 +51,10 @@ fn text_of_run<'a>(
         Err(RunFault::NoMemory) => return Err(Refusal::OutOfMemory),
     };
     match print(alloc, run.events.as_slice(), &run.end, &run.state, dump) {
-        Ok(text) => Ok(text),
+        Ok(bytes) => Ok(Product {
+            bytes,
+            end: Some(run.end),
+        }),
         Err(_) => Err(Refusal::OutOfMemory),
     }
 }
@@ -83,15 +88,16 @@ fn read_start<'a, H: Host>(
     }
 }
 
-/// Reads the files of a command and runs it: the text of the run. An `Err` says what failed.
+/// Reads the files of a command and runs it: the text of the run, and the run's end. An `Err` says what failed.
 pub fn run<'a, H: Host>(
     alloc: Global,
     command: &RunCommand<'a>,
     host: &mut H,
-) -> Result<Bytes, Refusal<'a>>
+) -> Result<Product, Refusal<'a>>
     requires few { command.now.cycles ≤ 4000000 }
     requires room { IsInRam command.now.more }
-    ensures gives { IfOk result (Gives (change (H.state host.old) (H.state host.new)) (Run (run_in command.now))) }
+    ensures gives { IfOk result (λ product. Gives (change (H.state host.old) (H.state host.new)) (Run (run_in command.now)) product.bytes) }
+    ensures end { IfOk result (λ product. product.end ≡ end_of product.bytes) }
     ensures refused { IfErr result (GivesNothing (change (H.state host.old) (H.state host.new)) (Run (run_in command.now))) }
     ensures faults { Counts (H.state host.old).faults (H.state host.new).faults (ending result ≡ ReadFault) }
     ensures goes { Goes (change (H.state host.old) (H.state host.new)) (files_of (Run (run_in command.now))) (ending result) }

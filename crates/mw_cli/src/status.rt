@@ -1,12 +1,17 @@
 ghost use Rattle.std.specs.Prelude.{◌≡◌};
-ghost use Rattle.mw_cli.specs.Numbers.{number_of};
+ghost use Rattle.mw_cli.specs.Numbers.{number_of, ended};
+
+use mw_isa::End;
 
 /// How the program ends. `number` has the numbers.
 #[derive(Clone, Copy, Debug, PartialEq, Eq)]
 pub enum Status {
     /// What the words ask for is done: the text of the run or of the disassembly, or the
-    /// image of the source, is written. Err took nothing.
+    /// image of the source, is written. A run reached its number of cycles. Err took nothing.
     Done,
+    /// The run ended before an instruction that breaks the update discipline, and its text is written, which says so.
+    /// Err took nothing.
+    Offence,
     /// The words aren't `run IMAGE --cycles N`, with `--dump A:L` and then `--script FILE` behind it or without, `asm SOURCE`
     /// or `dis IMAGE`.
     Usage,
@@ -23,12 +28,13 @@ pub enum Status {
 }
 
 impl Status {
-    /// The number that the process ends with: 0 for `Done`, and 2 to 7 for the others in their order. No status has 1 or 8.
+    /// The number that the process ends with: 0 to 7, in their order. No status has 8.
     pub fn number(self) -> u8
         ensures { result ≡ number_of self }
     {
         match self {
             Status::Done => 0,
+            Status::Offence => 1,
             Status::Usage => 2,
             Status::ReadFault => 3,
             Status::WriteFault => 4,
@@ -36,5 +42,16 @@ impl Status {
             Status::BadInput => 6,
             Status::NoMemory => 7,
         }
+    }
+}
+
+/// The status of an order that was carried out, by the end of its run, if it is a run.
+pub fn ended(end: Option<End>) -> Status
+    ensures { result ≡ ended end }
+{
+    match end {
+        None => Status::Done,
+        Some(End::Ran { .. }) => Status::Done,
+        Some(End::Offence { .. }) => Status::Offence,
     }
 }

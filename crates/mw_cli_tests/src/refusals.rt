@@ -80,6 +80,7 @@ fn a_file_of_the_system_is_absent(rt: HostRuntime) -> Result<(), Fail> {
 fn a_status_has_its_number(rt: HostRuntime) {
     for (status, number) in [
         (Status::Done, 0),
+        (Status::Offence, 1),
         (Status::Usage, 2),
         (Status::ReadFault, 3),
         (Status::WriteFault, 4),

@@ -25,7 +25,7 @@ use Rattle.mw_isa.specs.Raises.{Placed, cut_raises, earlier, fetch_raises, first
 use Rattle.mw_isa.specs.Slots.{get_slot}
 use Rattle.mw_isa.specs.State.{State}
 use Rattle.mw_isa.specs.Step.{UnderWay, data_of, deed_at, marked, next_of, outcome_of, outcome_parts, placed_of, raises_of, state_behind, step, stepped, stepped_by, under_way, under_way_of}
-use Rattle.mw_isa.specs.Storage.{accessed, deed_by, finding, is_reserved, is_unaligned_exclusive, loaded_number, loads, pages_of, ram_behind, regs_behind}
+use Rattle.mw_isa.specs.Storage.{accessed, finding, is_reserved, is_unaligned_exclusive, loaded_number, loads, pages_of, ram_behind, regs_behind}
 use Rattle.mw_isa.specs.Translate.{found_by, is_translated, page_real, quadrant_of, real_found, translate_of, translated_in, untranslated}
 use Rattle.mw_isa.specs.Walk.{AgreeOn, Walked}
 use Rattle.mw_isa.specs.Words.{insn_of}
@@ -124,26 +124,6 @@ left-alike None (Some outcome) placed at state other ties agree =
 left-alike (Some insn) None placed at state other ties agree = record { regs = refl; devices = refl; ram = refl; beside = refl }
 left-alike (Some insn) (Some outcome) placed at state other ties agree = written-alike insn outcome placed at state other agree
 
--- the deed of an access isn't RAM's
-same-deed : (what : MemWhat) (at : Stretches) (state : State) (other : List ℕ) → deed_by what at (with_ram other state) ≡ deed_by what at state
-same-deed (Load signed reversed reserve) at state other = refl
-same-deed (Store reversed) at state other = refl
-same-deed (Conditional reversed) at state other = refl
-same-deed Zero at state other = refl
-same-deed Clean at state other = refl
-same-deed Icbi at state other = refl
-
--- nor is that of an outcome
-same-deeds : (outcome : Option Outcome) (placed : Option Placed) (state : State) (other : List ℕ) → deed_at outcome placed (with_ram other state) ≡ deed_at outcome placed state
-same-deeds None placed state other = refl
-same-deeds (Some (Done targets next)) placed state other = refl
-same-deeds (Some (Long op)) placed state other = refl
-same-deeds (Some (System op)) placed state other = refl
-same-deeds (Some (Trap vector cause)) placed state other = refl
-same-deeds (Some (Memory op)) None state other = refl
-same-deeds (Some (Memory op)) (Some (Err fault)) state other = refl
-same-deeds (Some (Memory op)) (Some (Ok at)) state other = same-deed op.what at state other
-
 -- what an instruction carries, its access standing here
 abbrev placing : UnderWay → Option Placed → UnderWay
 placing it placed = record it { placed = placed }
@@ -172,7 +152,7 @@ like-by None it placed state other ties reach same agree =
       outcome = refl;
       trap = refl;
       accesses = ap (λ (touches : List Touch). touch_of (word_page it.cia) ∷ touches) reach;
-      deed = ap (λ (p : Option Placed). deed_at it.outcome p (with_ram other state)) stands ∙ same-deeds it.outcome it.placed state other;
+      deed = ap (λ (p : Option Placed). deed_at it.outcome p state.regs.reserve) stands;
       regs = ap (λ (p : Option Placed). (state_behind it.insn it.outcome p it.cia (with_ram other state)).regs) stands ∙ alike.regs;
       devices = ap (λ (p : Option Placed). (state_behind it.insn it.outcome p it.cia (with_ram other state)).devices) stands ∙ alike.devices;
       ram = alike.ram;

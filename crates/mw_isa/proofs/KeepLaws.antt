@@ -63,16 +63,19 @@ part-known : (slot : Slot) (value : Option ℕ) (regs : Regs) → system_part (o
 part-known slot None regs = refl
 part-known slot (Some value) regs = part-slot regs slot value
 
-part-targets : (targets : List Target) (regs : Regs) → system_part (set_targets targets regs) ≡ system_part regs
+-- registers that are set by name leave the registers of the system
+pub part-targets : (targets : List Target) (regs : Regs) → system_part (set_targets targets regs) ≡ system_part regs
 part-targets [] regs = refl
 part-targets (target ∷ targets) regs = part-targets targets (set_target target regs) ∙ part-known target.slot target.value regs
 
-part-reading : (to : ℕ) (read : Result (Option ℕ) SprRefusal) (regs : Regs) → system_part (regs_reading to read regs) ≡ system_part regs
+-- a read by number leaves them
+pub part-reading : (to : ℕ) (read : Result (Option ℕ) SprRefusal) (regs : Regs) → system_part (regs_reading to read regs) ≡ system_part regs
 part-reading to (Ok None) regs = refl
 part-reading to (Ok (Some value)) regs = part-slot regs (Gpr to) value
 part-reading to (Err refused) regs = refl
 
-part-access : (op : MemOp) (at : Stretches) (state : State) → system_part (accessed op at state).regs ≡ system_part state.regs
+-- an access leaves them
+pub part-access : (op : MemOp) (at : Stretches) (state : State) → system_part (accessed op at state).regs ≡ system_part state.regs
 unfolding accessed
 part-access op at state =
     part-targets (access_targets op.what op (loads op.what op at state) (is_reserved at state.regs.reserve) state.regs.xer) state.regs

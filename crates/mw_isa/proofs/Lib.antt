@@ -1,5 +1,6 @@
 -- What holds of each row of the table, of registers by name, of what raises an interrupt, of products, of a step, of a
--- replay, of interrupts between instructions, of a run's text, of an access, of a walk, and what an instruction depends on.
+-- replay, of interrupts between instructions, of a run's text, of an access, of a walk, what an instruction depends on, and
+-- of the update discipline.
 pub mod SlotLaws
 pub mod RowLaws
 pub mod ReadLaws
@@ -15,6 +16,10 @@ pub mod WalkReadLaws
 pub mod WalkSameLaws
 pub mod WalkPageLaws
 pub mod DependLaws
+pub mod PacketLaws
+pub mod DisciplinedLaws
 pub mod StorageLaws
 pub mod PageLaws
 pub mod StorageCases
+pub mod DisciplineLaws
+pub mod DeedLaws

@@ -35,9 +35,12 @@ pub mod Depends
 pub mod Choose
 pub mod Replay
 pub mod Cycle
+pub mod Discipline
+pub mod Statuses
 pub mod Stops
 pub mod Prompt
 pub mod Lively
+pub mod Disciplined
 pub mod Runs
 pub mod Text
 pub mod Reading

@@ -4,7 +4,14 @@ use Rattle.std.specs.Str.Parse.{digits_value}
 use Rattle.mw_isa.specs.declared.event.Event.{Event}
 use Rattle.mw_isa.specs.declared.event.Event.TheVariants.{Retire, Trap, Irq}
 use Rattle.mw_isa.specs.declared.event.End.{End}
-use Rattle.mw_isa.specs.declared.event.End.TheVariants.{Ran}
+use Rattle.mw_isa.specs.declared.event.End.TheVariants.{Ran, Offence}
+use Rattle.mw_isa.specs.declared.access.Kind.{Kind}
+use Rattle.mw_isa.specs.declared.access.Kind.TheVariants.{Fetch, Load, Store}
+use Rattle.mw_isa.specs.declared.offence.BlockStatus.{BlockStatus}
+use Rattle.mw_isa.specs.declared.offence.BlockStatus.TheVariants.{Changed, Invalidated}
+use Rattle.mw_isa.specs.declared.offence.Fresh.TheVariants.{Page, Fault}
+use Rattle.mw_isa.specs.declared.offence.Why.{Why}
+use Rattle.mw_isa.specs.declared.offence.Why.TheVariants.{Page as KeptPage, Block}
 use Rattle.mw_isa.specs.declared.vector.Vector.{Vector}
 use Rattle.mw_isa.specs.declared.vector.Vector.TheVariants.{DataStorage, DataSegment, InstStorage, InstSegment, External, Alignment, Program, FpUnavailable, Decrementer, SystemCall, VectorUnavailable, VsxUnavailable}
 use Rattle.mw_isa.specs.State.{State}
@@ -73,9 +80,29 @@ guess_event words = None
 unfoldable pub event_of : List (List ℕ) → Option Event
 event_of words = option_and_then (λ event. if same_words (event_words event) words && nat_lt (cycle_of_event event) (2 ^ 64) then Some event else None) (guess_event words)
 
+-- the kind of access that a word could tell
+abbrev pub kind_by : List ℕ → Kind
+kind_by word = if bytes_eq word (codes "fetch") then Fetch else (if bytes_eq word (codes "load") then Load else Store)
+
+-- the status of a block that a word could tell
+abbrev pub status_by : List ℕ → BlockStatus
+status_by word = if bytes_eq word (codes "changed") then Changed else Invalidated
+
+-- why an access breaks the update discipline, as two words could tell behind what they are of
+abbrev pub why_by : List ℕ → List ℕ → List ℕ → Why
+why_by what first second =
+    if bytes_eq what (codes "page") then KeptPage (digits_value 16 first) (Page (digits_value 16 second))
+    else Block (digits_value 16 first) (status_by second)
+
+-- the end by an offence that words of these could be
+abbrev pub offence_by : List ℕ → List ℕ → List ℕ → Why → End
+offence_by cycle kind ea why = Offence (digits_value 10 cycle) (record { kind = kind_by kind; ea = digits_value 16 ea; why = why })
+
 -- the end that words could be
 abbrev pub guess_end : List (List ℕ) → Option End
 guess_end (end ∷ ran ∷ cycle ∷ []) = Some (Ran (digits_value 10 cycle))
+guess_end (end ∷ offence ∷ cycle ∷ kind ∷ ea ∷ what ∷ first ∷ second ∷ []) = Some (offence_by cycle kind ea (why_by what first second))
+guess_end (end ∷ offence ∷ cycle ∷ kind ∷ ea ∷ page ∷ kept ∷ fault ∷ vector ∷ []) = option_map (λ v. offence_by cycle kind ea (KeptPage (digits_value 16 kept) (Fault v))) (vector_at (digits_value 16 vector))
 guess_end words = None
 
 -- the end of a cycle of 64 bits whose words these are, if there is one
@@ -111,9 +138,16 @@ FitsEvent (Retire cycle cia word suffix) = (cycle < 2 ^ 64) × (cia < 2 ^ 64) ×
 FitsEvent (Trap cycle cia vector) = (cycle < 2 ^ 64) × (cia < 2 ^ 64)
 FitsEvent (Irq cycle nia vector) = (cycle < 2 ^ 64) × (nia < 2 ^ 64)
 
--- the number of an end fits its type
+-- the numbers of why an access breaks the update discipline fit their types
+abbrev pub FitsWhy : Why → Type 0
+FitsWhy (KeptPage kept (Page real)) = (kept < 2 ^ 64) × (real < 2 ^ 64)
+FitsWhy (KeptPage kept (Fault vector)) = kept < 2 ^ 64
+FitsWhy (Block block status) = block < 2 ^ 64
+
+-- the numbers of an end fit their types
 abbrev pub FitsEnd : End → Type 0
 FitsEnd (Ran cycle) = cycle < 2 ^ 64
+FitsEnd (Offence cycle access) = (cycle < 2 ^ 64) × (access.ea < 2 ^ 64) × FitsWhy access.why
 
 -- a text spells these events and this end, and no others
 pub record Spells (text : List ℕ) (events : List Event) (end : End) : Type 0 where

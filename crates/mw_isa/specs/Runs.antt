@@ -6,8 +6,9 @@
 -- without an event; a run that breaks the update discipline stops at its first offending access, and all this holds
 -- until there.
 --
--- Below is what of it is built: image, script, number of cycles, events, registers, memory, UART bytes, interrupts, and
--- the 8,192 cycles. Waits and the update discipline aren't built yet.
+-- Below is what of it is built: image, script, number of cycles, events, registers, memory, UART bytes, interrupts, the
+-- 8,192 cycles, and of the update discipline what concerns changed code. Waits and the discipline of changed translations
+-- aren't built yet.
 use Rattle.std.specs.Prelude.{ℕ, ◌≡◌, ◌≤◌, ◌<◌, List, length, Some, All}
 use Rattle.std.specs.List.Sorted.{IsStrictlyIncreasing}
 use Rattle.mw_bus.specs.Memory.{ram_size}
@@ -19,6 +20,8 @@ use Rattle.mw_isa.specs.Replay.{cycles_of, state_after}
 use Rattle.mw_isa.specs.Stops.{stop_of, StopsBy}
 use Rattle.mw_isa.specs.Prompt.{IsPrompt}
 use Rattle.mw_isa.specs.Lively.{IsLively}
+use Rattle.mw_isa.specs.Discipline.{nothing_kept}
+use Rattle.mw_isa.specs.Disciplined.{IsDisciplined, OffendsBy, kept_after}
 
 -- the events are a run of this boot for n cycles, with this end and last state
 pub record Runs (boot : Boot) (n : ℕ) (events : List Event) (end : End) (last : State) : Type 0 where
@@ -36,3 +39,7 @@ pub record Runs (boot : Boot) (n : ℕ) (events : List Event) (end : End) (last 
   pub prompt : IsPrompt events (start boot)
   -- no 8,192 successive cycles up to the stop are without an event
   pub lively : IsLively events (stop_of end)
+  -- no instruction that retired or trapped has an access that breaks the update discipline
+  pub disciplined : IsDisciplined events nothing_kept (start boot)
+  -- a run that ends with an offence stops before the next instruction's first access that breaks it
+  pub offence : OffendsBy end (kept_after events nothing_kept (start boot)) last

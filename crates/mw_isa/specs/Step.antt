@@ -174,29 +174,33 @@ abbrev pub data_of : Outcome → Option Placed → List Touch
 data_of (Memory op) (Some placed) = reached op
 data_of outcome placed = []
 
--- what an outcome does to changed code, where its access stands
-abbrev pub deed_at : Option Outcome → Option Placed → State → Deed
-deed_at (Some (Memory op)) (Some (Ok at)) state = deed_by op.what at state
-deed_at (Some (Memory op)) (Some (Err fault)) state = Plain
-deed_at (Some (Memory op)) None state = Plain
-deed_at (Some (Long op)) placed state = Plain
-deed_at (Some (System op)) placed state = system_deed op
-deed_at (Some (Trap vector cause)) placed state = Plain
-deed_at (Some (Done targets next)) placed state = Plain
-deed_at None placed state = Plain
+-- the accesses to data that an instruction came to, in order
+abbrev pub touches_by : UnderWay → List Touch
+touches_by it = option_map_or (λ outcome. data_of outcome it.placed) it.outcome []
+
+-- what an outcome does to changed code, where its access stands, a block being reserved or not
+abbrev pub deed_at : Option Outcome → Option Placed → Option ℕ → Deed
+deed_at (Some (Memory op)) (Some (Ok at)) reserve = deed_by op.what at reserve
+deed_at (Some (Memory op)) (Some (Err fault)) reserve = Plain
+deed_at (Some (Memory op)) None reserve = Plain
+deed_at (Some (Long op)) placed reserve = Plain
+deed_at (Some (System op)) placed reserve = system_deed op
+deed_at (Some (Trap vector cause)) placed reserve = Plain
+deed_at (Some (Done targets next)) placed reserve = Plain
+deed_at None placed reserve = Plain
 
 -- the deed of an instruction; one that raises an interrupt has none
-abbrev pub deed_of : Option Raised → UnderWay → State → Deed
-deed_of (Some raised) it state = Plain
-deed_of None it state = deed_at it.outcome it.placed state
+abbrev pub deed_of : Option Raised → UnderWay → Option ℕ → Deed
+deed_of (Some raised) it reserve = Plain
+deed_of None it reserve = deed_at it.outcome it.placed reserve
 
 -- an instruction from what it carries, and the interrupt that it raises
 abbrev pub stepped_by : UnderWay → Option Raised → State → Stepped
 stepped_by it trap state = record {
   carried = it;
   trap = trap;
-  accesses = touch_of (word_page it.cia) ∷ option_map_or (λ outcome. data_of outcome it.placed) it.outcome [];
-  deed = deed_of trap it state;
+  accesses = touch_of (word_page it.cia) ∷ touches_by it;
+  deed = deed_of trap it state.regs.reserve;
   after = after_of trap it state;
 }
 

@@ -205,13 +205,13 @@ accessed op at state = accessed_as op.what op at state
 abbrev pub store_deed : Stretches → Deed
 store_deed at = if is_in_ram at then StoreDeed (record { items = spans_of at }) else Plain
 
--- what an access does to changed code
-abbrev pub deed_by : MemWhat → Stretches → State → Deed
-deed_by (Store reversed) at state = store_deed at
-deed_by (Conditional reversed) at state = if is_reserved at state.regs.reserve then store_deed at else Plain
-deed_by Zero at state = store_deed at
-deed_by Icbi at state = if is_in_ram at then IcbiDeed (block_of at) else Plain
-deed_by what at state = Plain
+-- what an access does to changed code, a block being reserved or not
+abbrev pub deed_by : MemWhat → Stretches → Option ℕ → Deed
+deed_by (Store reversed) at reserve = store_deed at
+deed_by (Conditional reversed) at reserve = if is_reserved at reserve then store_deed at else Plain
+deed_by Zero at reserve = store_deed at
+deed_by Icbi at reserve = if is_in_ram at then IcbiDeed (block_of at) else Plain
+deed_by what at reserve = Plain
 
 -- what is known of the stretches of an access, whatever tells where its pages stand
 pub record IsPlaced (op : MemOp) (at : Stretches) : Type 0 where

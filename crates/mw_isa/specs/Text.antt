@@ -1,11 +1,19 @@
 -- The text of a run: lines of words, each line ended by a line feed.
 use Rattle.std.specs.Prelude.{ℕ, ◌+◌, ◌-◌, ◌*◌, ◌/◌, min, List, [], ◌∷◌, ◌++◌, take, drop, Option, Some, None, map, codes, decimal, slice_index}
 use Rattle.std.specs.List.{flat_map, join_with_byte, enumerate_from, range_with_len}
+use Rattle.mw_isa.specs.declared.access.Kind.{Kind}
+use Rattle.mw_isa.specs.declared.access.Kind.TheVariants.{Fetch, Load, Store}
 use Rattle.mw_isa.specs.declared.access.Span.{Span}
 use Rattle.mw_isa.specs.declared.event.Event.{Event}
 use Rattle.mw_isa.specs.declared.event.Event.TheVariants.{Retire, Trap, Irq}
 use Rattle.mw_isa.specs.declared.event.End.{End}
-use Rattle.mw_isa.specs.declared.event.End.TheVariants.{Ran}
+use Rattle.mw_isa.specs.declared.event.End.TheVariants.{Ran, Offence}
+use Rattle.mw_isa.specs.declared.offence.BlockStatus.{BlockStatus}
+use Rattle.mw_isa.specs.declared.offence.BlockStatus.TheVariants.{Changed, Invalidated}
+use Rattle.mw_isa.specs.declared.offence.Fresh.{Fresh}
+use Rattle.mw_isa.specs.declared.offence.Fresh.TheVariants.{Page, Fault}
+use Rattle.mw_isa.specs.declared.offence.Why.{Why}
+use Rattle.mw_isa.specs.declared.offence.Why.TheVariants.{Page as KeptPage, Block}
 use Rattle.mw_isa.specs.declared.regs.Regs.{Regs}
 use Rattle.mw_digits.specs.Digits.{hex}
 use Rattle.mw_soc.specs.DeviceData.{DeviceData}
@@ -24,9 +32,31 @@ event_words (Retire cycle cia word (Some suffix)) = codes "R" ∷ decimal cycle 
 event_words (Trap cycle cia vector) = codes "T" ∷ decimal cycle ∷ hex 16 cia ∷ hex 4 (address_of vector) ∷ []
 event_words (Irq cycle nia vector) = codes "I" ∷ decimal cycle ∷ hex 16 nia ∷ hex 4 (address_of vector) ∷ []
 
+-- the word of what an access is for
+abbrev pub kind_word : Kind → List ℕ
+kind_word Fetch = codes "fetch"
+kind_word Load = codes "load"
+kind_word Store = codes "store"
+
+-- the word of what was done to a block
+abbrev pub status_word : BlockStatus → List ℕ
+status_word Changed = codes "changed"
+status_word Invalidated = codes "invalidated"
+
+-- the words of what a page comes to by the tables
+abbrev pub fresh_words : Fresh → List (List ℕ)
+fresh_words (Page real) = hex 16 real ∷ []
+fresh_words (Fault vector) = codes "fault" ∷ hex 4 (address_of vector) ∷ []
+
+-- the words of why an access breaks the update discipline
+abbrev pub why_words : Why → List (List ℕ)
+why_words (KeptPage kept fresh) = codes "page" ∷ hex 16 kept ∷ fresh_words fresh
+why_words (Block block status) = codes "block" ∷ hex 16 block ∷ status_word status ∷ []
+
 -- the words of the end's line
 abbrev pub end_words : End → List (List ℕ)
 end_words (Ran cycle) = codes "end" ∷ codes "ran" ∷ decimal cycle ∷ []
+end_words (Offence cycle access) = codes "end" ∷ codes "offence" ∷ decimal cycle ∷ kind_word access.kind ∷ hex 16 access.ea ∷ why_words access.why
 
 -- the words of a general purpose register's line
 abbrev pub gpr_words : ℕ × ℕ → List (List ℕ)
@@ -107,6 +137,18 @@ abbrev pub asked_words : List ℕ → Option Span → List (List (List ℕ))
 asked_words ram None = []
 asked_words ram (Some span) = dump_words ram span
 
--- the text of a run: the events, the end, the registers, the UART, and the dump that is asked for
+-- the lines of events
+abbrev pub event_lines : List Event → List ℕ
+event_lines events = flat_map line (map event_words events)
+
+-- the line of an end
+abbrev pub end_line : End → List ℕ
+end_line end = line (end_words end)
+
+-- the lines behind the end's: the registers, the UART, and the dump that is asked for
+abbrev pub state_lines : State → Option Span → List ℕ
+state_lines state dump = flat_map line (state_words state ++ asked_words state.ram dump)
+
+-- the text of a run: the lines of its events and of its end, and those of the state at its end
 unfoldable pub text_of : List Event → End → State → Option Span → List ℕ
-text_of events end state dump = flat_map line (map event_words events ++ end_words end ∷ state_words state ++ asked_words state.ram dump)
+text_of events end state dump = event_lines events ++ end_line end ++ state_lines state dump

@@ -12,8 +12,15 @@ pub enum Kind {
     Store,
 }
 
+impl Default for Kind {
+    /// The fetch, to fill places that aren't used.
+    fn default() -> Kind {
+        Kind::Fetch
+    }
+}
+
 /// An access to one page of storage.
-#[derive(Clone, Copy, Debug, PartialEq, Eq)]
+#[derive(Clone, Copy, Debug, Default, PartialEq, Eq)]
 pub struct Touch {
     /// What the access is for.
     pub kind: Kind,
@@ -45,7 +52,7 @@ pub enum Deed {
 }
 
 /// A stretch of RAM: `len` bytes from the real address `at` on.
-#[derive(Clone, Copy, Debug, PartialEq, Eq)]
+#[derive(Clone, Copy, Debug, Default, PartialEq, Eq)]
 pub struct Span {
     /// The first byte's real address.
     pub at: u32,

@@ -1,3 +1,4 @@
+use crate::offence::Access;
 use crate::vector::Vector;
 
 /// What happens in a cycle, counted from 0: an instruction retires or traps, or an interrupt is taken.
@@ -42,5 +43,12 @@ pub enum End {
     Ran {
         /// The number of cycles that was asked for.
         cycle: u64,
+    },
+    /// The next instruction has an access that breaks the update discipline: the run stops before it.
+    Offence {
+        /// The cycle at which that instruction was the next one.
+        cycle: u64,
+        /// Its first access that breaks the discipline.
+        access: Access,
     },
 }

@@ -4,6 +4,7 @@
 
 mod access;
 mod address;
+mod deed;
 mod load;
 mod raised;
 mod registers;
@@ -11,6 +12,7 @@ mod store;
 
 pub use access::{Piece, merge, pieces};
 pub use address::{block_of, is_in_ram, pages_of};
+pub use deed::{deed_by, reached};
 pub use load::loaded_number;
 pub use raised::access_raises;
 pub use registers::{is_reserved, regs_behind};

@@ -45,7 +45,7 @@ fn needs_ram(what: MemWhat) -> bool
 }
 
 /// Whether an access is an exclusive one that isn't aligned.
-fn is_unaligned_exclusive(op: &MemOp) -> bool
+pub fn is_unaligned_exclusive(op: &MemOp) -> bool
     requires { 1 ≤ op.now.len }
     ensures { result ≡ is_unaligned_exclusive op.now }
 {

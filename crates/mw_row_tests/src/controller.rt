@@ -1,7 +1,7 @@
 use crate::alone::{OTHER, first, lay, retires};
 use crate::left::leaves;
 use mw_board::simulate;
-use mw_isa::{Event, State};
+use mw_isa::{End, Event, State};
 use mw_soc::Devices;
 use mw_uart::read_script;
 use std::test::Fail;
@@ -62,6 +62,7 @@ fn programs_meet_the_controller(rt: HostRuntime) -> Result<(), Fail> {
         };
         match simulate(alloc, image.as_slice(), &script, *n) {
             Ok(run) => {
+                assert_eq!(rt; run.end, End::Ran { cycle: *n }, "{words:?}");
                 let cia = run.state.regs.cia;
                 assert_eq!(rt; cia.wrapping_add(4), image.len() as u64, "CIA of {words:?}");
                 assert!(rt; all_retire(run.events.as_slice()), "{words:?}");

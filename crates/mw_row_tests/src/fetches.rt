@@ -2,7 +2,7 @@ use crate::left::Name::{Cia, Dar, Dsisr, Msr, Srr0, Srr1};
 use crate::left::{Name, leaves};
 use crate::tree::{happen, image_of};
 use mw_board::simulate;
-use mw_isa::{Event, Vector};
+use mw_isa::{End, Event, Vector};
 use mw_uart::Script;
 use std::test::Fail;
 
@@ -166,6 +166,7 @@ fn instructions_are_translated(rt: HostRuntime) -> Result<(), Fail> {
             let ram = image_of(alloc, 1, row.start, row.parts, row.tables)?;
             match simulate(alloc, ram.slice(0, 0x20_6000), &Script::new(alloc), row.n) {
                 Ok(run) => {
+                    assert_eq!(rt; run.end, End::Ran { cycle: row.n }, "{shown:?}");
                     happen(&rt, run.events.as_slice(), row.events, &shown);
                     leaves(&rt, &run, row.contents, row.names, &shown)?;
                 }

@@ -1,5 +1,5 @@
 use mw_board::{Run, simulate};
-use mw_isa::{Event, Vector};
+use mw_isa::{End, Event, Vector};
 use mw_uart::Script;
 use std::alloc::{AllocError as NoMemory, Global};
 use std::test::Fail;
@@ -134,6 +134,7 @@ fn instructions_trap_where_they_should(rt: HostRuntime) -> Result<(), Fail> {
         let image = image_of(alloc, *words)?;
         match simulate(alloc, image.as_slice(), &Script::new(alloc), 40) {
             Ok(run) => {
+                assert_eq!(rt; run.end, End::Ran { cycle: 40 }, "{words:?}");
                 assert!(rt; has_trap(&run, *trap), "{words:?}");
                 assert!(rt; has_registers(&run, *saved, *contents), "{words:?}");
             }

@@ -22,6 +22,8 @@ mod logic;
 #[cfg(test)]
 mod numbers;
 #[cfg(test)]
+mod offences;
+#[cfg(test)]
 mod pending;
 #[cfg(test)]
 mod problem;

@@ -4,6 +4,7 @@ use crate::numbers::Register::{
     Sprg3, Srr0, Srr1, Tar, Xer,
 };
 use mw_board::{Run, simulate};
+use mw_isa::End;
 use mw_uart::Script;
 use std::alloc::{AllocError as NoMemory, Global};
 use std::test::Fail;
@@ -227,6 +228,7 @@ fn numbers_are_moved_in_a_run(rt: HostRuntime) -> Result<(), Fail> {
         let image = image_of(alloc, *words)?;
         match simulate(alloc, image.as_slice(), &Script::new(alloc), 30) {
             Ok(run) => {
+                assert_eq!(rt; run.end, End::Ran { cycle: 30 }, "{words:?}");
                 let regs = &run.state.regs;
                 assert_eq!(rt;
                     [regs.gpr[4], regs.gpr[5]],

@@ -2,7 +2,7 @@ use crate::left::Name::{Cia, Dec, Msr, Srr0, Srr1, Traps};
 use crate::left::{Name, leaves};
 use crate::system::image_of;
 use mw_board::simulate;
-use mw_isa::{Event, Vector};
+use mw_isa::{End, Event, Vector};
 use mw_uart::{Script, read_script};
 use std::alloc::Global;
 use std::process::Abort;
@@ -100,6 +100,7 @@ fn interrupts_are_taken_at_once(rt: HostRuntime) -> Result<(), Fail> {
         let script = script_of(&rt, alloc, text);
         match simulate(alloc, image.as_slice(), &script, *n) {
             Ok(run) => {
+                assert_eq!(rt; run.end, End::Ran { cycle: *n }, "{parts:?}");
                 let taken = interrupts_of(run.events.as_slice(), *first);
                 assert_eq!(rt; taken, (true, *count), "{parts:?}");
                 leaves(&rt, &run, contents, names, parts)?;

@@ -1,5 +1,6 @@
 use crate::left::leaves;
 use mw_board::simulate;
+use mw_isa::End;
 use mw_uart::Script;
 use std::alloc::{AllocError as NoMemory, Global};
 use std::test::Fail;
@@ -136,6 +137,7 @@ fn programs_of_results(rt: HostRuntime) -> Result<(), Fail> {
         let image = image_of(alloc, *words)?;
         match simulate(alloc, image.as_slice(), &Script::new(alloc), *n) {
             Ok(run) => {
+                assert_eq!(rt; run.end, End::Ran { cycle: *n }, "{words:?}");
                 assert_eq!(rt; run.state.regs.xer, *xer, "XER after {n} of {words:?}");
                 assert_eq!(rt;
                     [run.state.regs.cr, 16],

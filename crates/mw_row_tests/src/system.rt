@@ -1,6 +1,7 @@
 use crate::left::Name::{Cia, Dec, Msr, Sprg3, Srr0, Srr1, Traps, Xer};
 use crate::left::{Name, leaves};
 use mw_board::simulate;
+use mw_isa::End;
 use mw_uart::Script;
 use std::alloc::{AllocError as NoMemory, Global};
 use std::test::Fail;
@@ -66,6 +67,7 @@ fn rows_of_the_system_leave_what_they_should(rt: HostRuntime) -> Result<(), Fail
         let image = image_of(alloc, *parts)?;
         match simulate(alloc, image.as_slice(), &Script::new(alloc), *n) {
             Ok(run) => {
+                assert_eq!(rt; run.end, End::Ran { cycle: *n }, "{parts:?}");
                 leaves(&rt, &run, contents, names, parts)?;
             }
             Err(fault) => panic!(rt; "{fault:?} at {parts:?}"),

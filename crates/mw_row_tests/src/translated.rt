@@ -1,6 +1,6 @@
 use crate::tree::{happen, image_of};
 use mw_board::{Run, simulate};
-use mw_isa::{Event, Vector};
+use mw_isa::{End, Event, Vector};
 use mw_uart::Script;
 use std::process::Abort;
 use std::test::Fail;
@@ -145,6 +145,7 @@ static ROWS: [Row; 20] = [
 /// Says where a run has another end than a row says.
 fn compare(rt: &impl Abort, row: &Row, run: &Run) {
     let parts = row.parts;
+    assert_eq!(rt; run.end, End::Ran { cycle: row.n }, "{parts:?}");
     happen(rt, run.events.as_slice(), row.events, &parts);
     let regs = &run.state.regs;
     assert_eq!(rt;

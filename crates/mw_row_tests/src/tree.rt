@@ -39,6 +39,22 @@ fn put_words(alloc: Global, ram: &mut Ram, address: u32, words: &[u32]) -> Resul
     Ok(())
 }
 
+/// RAM with words at their addresses and zeros around them, the tree, and the doublewords of `tables` beside those of the
+/// tree or in their place.
+pub fn ram_of(
+    alloc: Global,
+    parts: &[(u32, &[u32])],
+    tables: &[(u32, u64)],
+) -> Result<Ram, NoMemory> {
+    let mut ram = Ram::new(alloc, &[])?;
+    for (address, words) in parts {
+        put_words(alloc, &mut ram, *address, *words)?;
+    }
+    put_tables(&mut ram, &TREE);
+    put_tables(&mut ram, tables);
+    Ok(ram)
+}
+
 /// The image of a program of a process, from address 0 on and with zeros behind it: four words that set PIDR and PRTBL, the
 /// words of `start` behind them, those of `parts` at their addresses, the tree, and the doublewords of `tables` beside
 /// those of the tree or in their place.

@@ -6,6 +6,8 @@ mod dumps;
 #[cfg(test)]
 mod faults;
 #[cfg(test)]
+mod offences;
+#[cfg(test)]
 mod runs;
 #[cfg(test)]
 mod scripts;

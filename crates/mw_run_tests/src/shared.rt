@@ -57,9 +57,8 @@ pub fn push_between(text: &mut String, saved: &[&str; 3]) -> Result<(), AllocErr
     text.push_str("dsisr 00000000\n")
 }
 
-/// Appends the lines from the end's on.
-pub fn push_left(text: &mut String, cycles: u64, left: &Left) -> Result<(), AllocError> {
-    writeln!(text, "end ran {cycles}")?;
+/// Appends the lines behind the end's.
+pub fn push_behind(text: &mut String, left: &Left) -> Result<(), AllocError> {
     for number in 0..32 {
         let digits = digits_of(left.set, number);
         writeln!(text, "r{number} {digits}")?;
@@ -74,6 +73,12 @@ pub fn push_left(text: &mut String, cycles: u64, left: &Left) -> Result<(), Allo
     text.push_str(BEHIND)?;
     writeln!(text, "uart {}", left.uart)?;
     Ok(())
+}
+
+/// Appends the lines from the end's on, of a run that reached its number of cycles.
+pub fn push_left(text: &mut String, cycles: u64, left: &Left) -> Result<(), AllocError> {
+    writeln!(text, "end ran {cycles}")?;
+    push_behind(text, left)
 }
 
 /// Appends the lines from the end's on, of a run that took no interrupt and left CR 0.

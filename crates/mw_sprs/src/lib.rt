@@ -8,4 +8,4 @@ mod numbers;
 mod system;
 
 pub use moving::{read, write, write_refusal};
-pub use system::{carry, system_raises};
+pub use system::{carry, system_deed, system_raises};

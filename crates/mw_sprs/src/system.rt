@@ -2,14 +2,14 @@ ghost use Rattle.std.specs.Prelude.{◌≡◌, IfSome, option_map};
 ghost use Rattle.mw_isa.specs.Msr.{pr_place};
 ghost use Rattle.mw_isa.specs.Sprs.{held, read_of, refusal_of, write_of};
 ghost use Rattle.mw_isa.specs.Xer.{has_bit};
-ghost use Rattle.mw_isa.specs.System.{held_or, msr_behind, refused_by, regs_reading, system_held, system_raises};
+ghost use Rattle.mw_isa.specs.System.{held_or, msr_behind, is_table, refused_by, regs_reading, system_deed, system_held, system_raises};
 ghost use Rattle.mw_isa.specs.Take.{IsUnmarked};
 
 use crate::moving::{read, write};
-use crate::numbers::refusal_of;
+use crate::numbers::{refusal_of, register_for};
 use mw_isa::{
-    ILLEGAL, PR, PRIVILEGED, Raised, Regs, Slot, SprRefusal, SysOp, Use, Vector, bit_at, has_bit,
-    msr_from, msr_partly_from, raising, set_slot,
+    Deed, ILLEGAL, Numbered, PR, PRIVILEGED, Raised, Regs, Slot, SprRefusal, SysOp, Use, Vector,
+    bit_at, has_bit, msr_from, msr_partly_from, raising, set_slot,
 };
 use mw_soc::Devices;
 
@@ -108,5 +108,34 @@ pub fn carry(op: &SysOp, regs: &mut Regs, devices: &mut Devices)
             write_from(*spr, *value, regs, devices);
         }
         _ => regs.msr = msr_behind(op, regs),
+    }
+}
+
+/// Whether a register is that of the table of translations.
+fn is_table(register: Option<Numbered>) -> bool
+    ensures { result ≡ is_table register }
+{
+    matches!(register, Some(Numbered::Prtbl))
+}
+
+/// What an instruction of the system does to changed code and changed translations where it takes effect (Book II,
+/// synchronization; Book III, translation invalidation). It can't fail.
+pub fn system_deed(op: &SysOp) -> Deed
+    ensures { result ≡ system_deed op.now }
+{
+    match op {
+        SysOp::WriteSpr { spr, .. } => {
+            if is_table(register_for(Use::Write, *spr)) {
+                Deed::NewTable
+            } else {
+                Deed::Plain
+            }
+        }
+        SysOp::Tlbie { scope } => Deed::Tlbie(*scope),
+        SysOp::Sync { l } => { if *l == 2 { Deed::Sync } else { Deed::Plain } }
+        SysOp::Return { .. } => Deed::Sync,
+        SysOp::Isync => Deed::Sync,
+        SysOp::ReadSpr { .. } => Deed::Plain,
+        SysOp::WriteMsr { .. } => Deed::Plain,
     }
 }

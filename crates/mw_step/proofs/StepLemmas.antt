@@ -21,32 +21,39 @@ use Rattle.mw_isa.specs.Storage.{IsSized, OnMemory, IsPlaced}
 use Rattle.mw_isa.specs.Step.{IsKnown, OnLong, OnPlaced, step, marked, end_raises, placed_of, state_behind}
 use Rattle.mw_isa.specs.Take.{IsCause, IsUnmarked}
 use Rattle.mw_isa.specs.Translate.{page_real}
-use Rattle.mw_isa.specs.Words.{decoded_of, insn_of}
+use Rattle.mw_isa.specs.Words.{decoded_of, insn_in, insn_of}
 use Rattle.mw_isa.proofs.RaiseLaws.{end-calm}
-use Rattle.mw_isa.proofs.StepLaws.{after-known, trap-known, trapped-cut, trapped-fault, trapped-words}
+use Rattle.mw_isa.specs.Discipline.{next_packet, packet_coming, packet_raising}
+use Rattle.mw_isa.proofs.PacketLaws.{packet-fault, packet-known, packet-words}
+use Rattle.mw_isa.proofs.StepLaws.{after-known, insn_of-cut, insn_of-whole, trap-known, trapped-cut, trapped-fault, trapped-words}
 use Rattle.mw_step.specs.declared.prepared.Prepared.{Prepared}
 use Rattle.mw_step.specs.Prepared.{ComesTo, IsPrepared}
 
 -- an interrupt that is there is prepared
-trapped-is : (state : State) (prepared : Prepared) (raised : Raised) → (step state).trap ≡ Some raised → prepared.raised ≡ Some raised → IfSome prepared.raised (λ (it : Raised). IsCause it.cause) → IsPrepared prepared state
-trapped-is state prepared raised trap is cause = record {
+trapped-is : (state : State) (prepared : Prepared) (raised : Raised) → (step state).trap ≡ Some raised → prepared.raised ≡ Some raised → IfSome prepared.raised (λ (it : Raised). IsCause it.cause) → prepared.packet ≡ next_packet state → IsPrepared prepared state
+trapped-is state prepared raised trap is cause packet = record {
   raised = trap ∙ sym is;
   cause = cause;
   comes = λ none.
       let no : Some raised ≡ None = sym is ∙ none in
       cc;
+  packet = packet;
 }
 
 -- a fetch that fails raises the interrupt of its fault
-pub prepared-fault : (state : State) (prepared : Prepared) (fault : StorageFault) (raised : Raised) → fetch_at state.ram state.regs ≡ Err fault → raised ≡ fault_raises fault Fetch state.regs.cia → IsUnmarked raised.cause → prepared.raised ≡ Some raised → IsPrepared prepared state
-prepared-fault state prepared fault raised failed r cause is =
-    trapped-is state prepared raised (trapped-fault fault state failed ∙ ap Some (sym r)) is (subst (λ (o : Option Raised). IfSome o (λ (it : Raised). IsCause it.cause)) (sym is) cause.is)
+pub prepared-fault : (state : State) (prepared : Prepared) (fault : StorageFault) (raised : Raised) → fetch_at state.ram state.regs ≡ Err fault → raised ≡ fault_raises fault Fetch state.regs.cia → IsUnmarked raised.cause → prepared.raised ≡ Some raised → prepared.packet ≡ packet_raising state.regs.cia None prepared.raised → IsPrepared prepared state
+prepared-fault state prepared fault raised failed r cause is seen =
+    let trap : (step state).trap ≡ Some raised = trapped-fault fault state failed ∙ ap Some (sym r) in
+    trapped-is state prepared raised trap is (subst (λ (o : Option Raised). IfSome o (λ (it : Raised). IsCause it.cause)) (sym is) cause.is)
+    (seen ∙ ap (packet_raising state.regs.cia None) is ∙ sym (packet-fault fault raised state failed trap))
 
 -- a prefix that is cut off raises the interrupt of a cut prefix
-pub prepared-cut : (state : State) (prepared : Prepared) (cut marked_cut : Raised) → fetched state ≡ Some prepared.words → is_cut prepared.words ≡ true → cut ≡ cut_raised → marked_cut ≡ marked (Some prepared.words) cut → prepared.raised ≡ Some marked_cut → IfSome prepared.raised (λ (it : Raised). IsCause it.cause) → IsPrepared prepared state
-prepared-cut state prepared cut marked_cut there is_cut c m r cause =
-    trapped-is state prepared (marked (Some prepared.words) cut_raised) (trapped-cut prepared.words state there is_cut)
-    (r ∙ ap Some (m ∙ ap (marked (Some prepared.words)) c)) cause
+pub prepared-cut : (state : State) (prepared : Prepared) (cut marked_cut : Raised) → fetched state ≡ Some prepared.words → is_cut prepared.words ≡ true → cut ≡ cut_raised → marked_cut ≡ marked (Some prepared.words) cut → prepared.raised ≡ Some marked_cut → IfSome prepared.raised (λ (it : Raised). IsCause it.cause) → prepared.packet ≡ packet_raising state.regs.cia (Some prepared.words) prepared.raised → IsPrepared prepared state
+prepared-cut state prepared cut marked_cut there is_cut c m r cause seen =
+    let raised : prepared.raised ≡ Some (marked (Some prepared.words) cut_raised) = r ∙ ap Some (m ∙ ap (marked (Some prepared.words)) c) in
+    let trap = trapped-cut prepared.words state there is_cut in
+    trapped-is state prepared (marked (Some prepared.words) cut_raised) trap raised cause
+    (seen ∙ ap (packet_raising state.regs.cia (Some prepared.words)) raised ∙ sym (packet-words prepared.words (marked (Some prepared.words) cut_raised) state there (insn_of-cut prepared.words is_cut) trap))
 
 -- words that are no instruction raise an interrupt
 some-raised : (what : Decoded) (view : Slot → ℕ) → is_insn what ≡ false → (raised : Raised) × (decoded_raises what view ≡ Some raised)
@@ -55,12 +62,22 @@ some-raised (Unavailable facility) view e = (_, refl)
 some-raised (Alignment ra rb disp) view e = (_, refl)
 some-raised Illegal view e = (_, refl)
 
+-- words that are no instruction by the test are no instruction
+none-insn : (what : Decoded) → is_insn what ≡ false → insn_in what ≡ None
+none-insn (Is insn) e = cc
+none-insn (Unavailable facility) e = refl
+none-insn (Alignment ra rb disp) e = refl
+none-insn Illegal e = refl
+
 -- words that are no instruction are prepared with the interrupt that they raise
-pub prepared-words : (state : State) (prepared : Prepared) (raised : Option Raised) → fetched state ≡ Some prepared.words → is_cut prepared.words ≡ false → is_insn (decoded_of prepared.words) ≡ false → raised ≡ words_raise prepared.words (get_slot state.regs) → prepared.raised ≡ option_map (marked (Some prepared.words)) raised → IfSome prepared.raised (λ (it : Raised). IsCause it.cause) → IsPrepared prepared state
-prepared-words state prepared raised there whole none w r cause =
+pub prepared-words : (state : State) (prepared : Prepared) (raised : Option Raised) → fetched state ≡ Some prepared.words → is_cut prepared.words ≡ false → is_insn (decoded_of prepared.words) ≡ false → raised ≡ words_raise prepared.words (get_slot state.regs) → prepared.raised ≡ option_map (marked (Some prepared.words)) raised → IfSome prepared.raised (λ (it : Raised). IsCause it.cause) → prepared.packet ≡ packet_raising state.regs.cia (Some prepared.words) prepared.raised → IsPrepared prepared state
+prepared-words state prepared raised there whole none w r cause seen =
     let some = some-raised (decoded_of prepared.words) (get_slot state.regs) none in
-    trapped-is state prepared (marked (Some prepared.words) some.0) (trapped-words prepared.words some.0 state there whole some.1)
-    (r ∙ ap (option_map (marked (Some prepared.words))) (w ∙ some.1)) cause
+    let is : prepared.raised ≡ Some (marked (Some prepared.words) some.0) = r ∙ ap (option_map (marked (Some prepared.words))) (w ∙ some.1) in
+    let trap = trapped-words prepared.words some.0 state there whole some.1 in
+    let nothing = insn_of-whole prepared.words (decoded_of prepared.words) whole refl ∙ none-insn (decoded_of prepared.words) none in
+    trapped-is state prepared (marked (Some prepared.words) some.0) trap is cause
+    (seen ∙ ap (packet_raising state.regs.cia (Some prepared.words)) is ∙ sym (packet-words prepared.words (marked (Some prepared.words) some.0) state there nothing trap))
 
 -- what was found of an instruction, part by part
 pub record Looked (state : State) (prepared : Prepared) (operands : Operands) (raised : Option Raised) : Type 0 where
@@ -76,6 +93,7 @@ pub record Looked (state : State) (prepared : Prepared) (operands : Operands) (r
   pub started : OnLong IsStarted prepared.outcome
   pub sized : OnMemory IsSized prepared.outcome
   pub stands : OnPlaced IsPlaced prepared.outcome prepared.placed
+  pub seen : prepared.packet ≡ packet_coming state.regs.cia prepared.words prepared.outcome prepared.placed prepared.raised state.regs.reserve
 
 -- an instruction that was looked at is known
 looked-known : (state : State) (prepared : Prepared) (operands : Operands) (raised : Option Raised) → Looked state prepared operands raised → IsKnown prepared.words prepared.insn prepared.outcome state
@@ -111,12 +129,20 @@ looked-trap state prepared operands raised l =
     ∙ ap (option_map (marked (Some prepared.words))) (sym l.raises)
     ∙ sym l.marks
 
+-- the discipline sees of an instruction that was looked at what was found
+looked-packet : (state : State) (prepared : Prepared) (operands : Operands) (raised : Option Raised) → Looked state prepared operands raised → prepared.packet ≡ next_packet state
+looked-packet state prepared operands raised l =
+    l.seen
+    ∙ ap (λ (place : Option Placed). packet_coming state.regs.cia prepared.words prepared.outcome place prepared.raised state.regs.reserve) l.placed
+    ∙ sym (packet-known prepared.words prepared.insn prepared.outcome prepared.raised state (looked-known state prepared operands raised l) (looked-trap state prepared operands raised l))
+
 -- an instruction that was looked at is prepared
 pub looked-prepared : (state : State) (prepared : Prepared) (operands : Operands) (raised : Option Raised) → Looked state prepared operands raised → IsPrepared prepared state
 looked-prepared state prepared operands raised l = record {
   raised = looked-trap state prepared operands raised l;
   cause = l.cause;
   comes = looked-comes state prepared operands raised l;
+  packet = looked-packet state prepared operands raised l;
 }
 
 -- the step of what is prepared leaves what its outcome leaves

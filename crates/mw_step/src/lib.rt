@@ -8,6 +8,7 @@ mod fetch;
 mod judge;
 mod long;
 mod look;
+mod packet;
 mod place;
 mod prepared;
 mod storage;

@@ -12,6 +12,7 @@ ghost use Rattle.mw_step.specs.Prepared.{IsPrepared};
 
 use crate::fetch::{fetch_at, fetched_at};
 use crate::judge::end_raises;
+use crate::packet::{set_coming, set_failing, set_raising};
 use crate::place::placed_of;
 use crate::prepared::Prepared;
 use mw_decode::{decode, decode_into};
@@ -66,6 +67,15 @@ fn prepare_insn(state: &State, prepared: &mut Prepared)
         &prepared.words,
         end_raises(&prepared.outcome, &prepared.placed, state.regs.msr),
     );
+    set_coming(
+        state.regs.cia,
+        &prepared.words,
+        &prepared.outcome,
+        &prepared.placed,
+        &prepared.raised,
+        state.regs.reserve,
+        &mut prepared.packet,
+    );
 }
 
 /// What is known of the instruction whose words are in `prepared`, written over the rest of it.
@@ -77,22 +87,35 @@ fn prepare_words(state: &State, prepared: &mut Prepared)
     let words = prepared.words;
     if is_cut(&words) {
         prepared.raised = Some(marked(&words, cut_raised()));
+        set_raising(
+            state.regs.cia,
+            &words,
+            &prepared.raised,
+            &mut prepared.packet,
+        );
     } else if decode_into(words.word, words.suffix, &mut prepared.insn) {
         prepare_insn(state, prepared);
     } else {
         prepared.raised = marked_if(&words, words_raise(&words, &state.regs));
+        set_raising(
+            state.regs.cia,
+            &words,
+            &prepared.raised,
+            &mut prepared.packet,
+        );
     }
 }
 
 /// What is known of the next instruction before anything changes: the interrupt that it raises, if it does, and if it
-/// doesn't, its words, what it is, what it comes to, and where its access stands, written over `prepared`, whatever
-/// that was (Books I to III). It can't fail and takes no memory.
+/// doesn't, its words, what it is, what it comes to, and where its access stands; and in any case what the update
+/// discipline sees of it; written over `prepared`, whatever that was (Books I to III). It can't fail and takes no memory.
 pub fn prepare(state: &State, prepared: &mut Prepared)
     ensures { IsPrepared prepared.new (seen state.now) }
 {
     match fetch_at(&state.ram, &state.regs) {
         Err(fault) => {
             prepared.raised = Some(fault_raises(fault, Kind::Fetch, state.regs.cia));
+            set_failing(state.regs.cia, &prepared.raised, &mut prepared.packet);
         }
         Ok(real) => {
             prepared.words = fetched_at(&state.ram, real);

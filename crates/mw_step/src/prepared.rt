@@ -3,7 +3,7 @@ ghost use Rattle.mw_step.specs.Prepared.{blank};
 
 use arrayvec::ArrayVec;
 use mw_decode::Insn;
-use mw_isa::{Fetched, Outcome, PageFault, Raised, Stretches};
+use mw_isa::{Deed, Fetched, Outcome, Packet, PageFault, Raised, Stretches};
 
 /// What is known of the next instruction before anything changes.
 #[derive(Drop)]
@@ -16,8 +16,10 @@ pub struct Prepared {
     pub outcome: Outcome,
     /// Where the instruction's access stands, if it has one: its stretches, or the fault of a page.
     pub placed: Option<Result<Stretches, PageFault>>,
-    /// The interrupt that the instruction raises, if it does; the rest is then of no use.
+    /// The interrupt that the instruction raises, if it does; the rest, but for the packet, is then of no use.
     pub raised: Option<Raised>,
+    /// What the update discipline sees of the instruction.
+    pub packet: Packet,
 }
 
 impl Prepared {
@@ -37,6 +39,14 @@ impl Prepared {
             },
             placed: None,
             raised: None,
+            packet: Packet {
+                cia: 0,
+                word: 0,
+                suffix: None,
+                touches: ArrayVec::new(),
+                deed: Deed::Plain,
+                trap: None,
+            },
         }
     }
 }

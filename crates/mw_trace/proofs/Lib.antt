@@ -1,4 +1,9 @@
 pub mod HexLemmas
 pub mod PieceLemmas
+pub mod CutLemmas
 pub mod NumeralLemmas
+pub mod WordLemmas
+pub mod EventLemmas
+pub mod ReadLemmas
 pub mod SpellLemmas
+pub mod ReadLaws

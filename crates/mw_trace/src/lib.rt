@@ -1,12 +1,16 @@
-//! The text of a run: its events, its end and the registers, a line each, and a dump of RAM.
+//! The text of a run: its events, its end and the registers, a line each, and a dump of RAM; and the events that a text
+//! of their lines is read as.
 #![tactic(auto)]
 
 mod dump;
 mod laws;
 mod lines;
+mod numerals;
+mod reading;
 mod registers;
 mod text;
 mod words;
 
-pub use laws::texts_spell;
-pub use text::print;
+pub use laws::{lines_read, texts_spell};
+pub use reading::{BadLine, read};
+pub use text::{end_line, event_lines, print};

@@ -1,6 +1,6 @@
 use mw_board::simulate;
 use mw_isa::{End, Event, Vector};
-use mw_trace::print;
+use mw_trace::{end_line, event_lines, print, read};
 use mw_uart::Script;
 use std::alloc::{AllocError as NoMemory, Global};
 use std::test::Fail;
@@ -19,6 +19,16 @@ const EXTERNAL: [u32; 2] = [0x7d80_4c2c, 0x4c00_0024];
 
 // lis r11,0x7fff; mtspr 22,r11; rfid
 const DECREMENTER: [u32; 3] = [0x3d60_7fff, 0x7d76_03a6, 0x4c00_0024];
+
+/// `li r3,5; b .`
+const LOOP: &[u8] = b"\x05\x00\x60\x38\x00\x00\x00\x48";
+
+/// The first three lines of its events.
+const LOOP_LINES: &str = "\
+R 0 0000000000000000 38600005
+R 1 0000000000000004 48000000
+R 2 0000000000000004 48000000
+";
 
 /// All that happens in 24 cycles.
 #[rattlefmt::skip]
@@ -142,6 +152,30 @@ fn a_run_takes_both_interrupts(rt: HostRuntime) -> Result<(), Fail> {
             let text = print(alloc, run.events.as_slice(), &run.end, &run.state, None)?;
             let wanted = text_of_run(alloc)?;
             assert!(rt; text.as_slice() == wanted.as_bytes());
+        }
+        Err(fault) => panic!(rt; "{fault:?}"),
+    }
+    Ok(())
+}
+
+#[test]
+fn the_lines_of_a_run_are_read_back(rt: HostRuntime) -> Result<(), Fail> {
+    let alloc = rt.alloc();
+    match simulate(alloc, LOOP, &Script::new(alloc), 20_000) {
+        Ok(run) => {
+            let lines = event_lines(alloc, run.events.as_slice())?;
+            assert!(rt; lines.as_slice().starts_with(LOOP_LINES.as_bytes()));
+            match read(alloc, lines.as_slice()) {
+                Ok(events) => {
+                    assert_eq!(rt; events.as_slice().len(), 20_000);
+                    assert!(rt; events.as_slice() == run.events.as_slice());
+                    let again = event_lines(alloc, events.as_slice())?;
+                    assert!(rt; again.as_slice() == lines.as_slice());
+                }
+                Err(fault) => panic!(rt; "{fault:?}"),
+            }
+            let end = end_line(alloc, &run.end)?;
+            assert!(rt; end.as_slice() == "end ran 20000\n".as_bytes());
         }
         Err(fault) => panic!(rt; "{fault:?}"),
     }

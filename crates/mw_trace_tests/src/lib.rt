@@ -4,4 +4,8 @@
 #[cfg(test)]
 mod both;
 #[cfg(test)]
+mod ends;
+#[cfg(test)]
+mod reading;
+#[cfg(test)]
 mod trace;

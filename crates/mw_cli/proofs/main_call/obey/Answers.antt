@@ -2,15 +2,24 @@ use Rattle.std.proofs.Common.{refl, sym, map, string_bytes, subst}
 use Rattle.mw_cli.specs.Command.{order_in}
 use Rattle.mw_cli.specs.Outside.{change}
 use Rattle.mw_cli.specs.Answers.{Call, Says}
-use Rattle.mw_cli.proofs.CauseLemmas.{says-refused}
-use Rattle.mw_cli.specs.declared.status.Status.TheVariants.{Done}
+use Rattle.mw_cli.proofs.CauseLemmas.{says-refused, says-written}
 use Rattle.mw_cli.specs.Numbers.{status_of}
 use Rattle.mw_cli.proofs.GoesLemmas.{goes-by}
 use Rattle.mw_cli.proofs.main_call.obey.Goals as goal
 
 pub returns-in-Ok-clause-goes_through : goal.returns-in-Ok-clause-goes_through
 returns-in-Ok-clause-goes_through g c =
-    goes-by (change (g.H.Host.state c.args.host.now) (g.H.Host.state c.fulfil.new.host)) (map string_bytes c.args.words.now) (order_in c.in-Some.command) Done Done (sym c.in-Some.ensures.value) refl c.in-Ok.ensures.goes
+    goes-by (change (g.H.Host.state c.args.host.now) (g.H.Host.state c.fulfil.new.host)) (map string_bytes c.args.words.now) (order_in c.in-Some.command) c.in-Ok.status c.in-Ok.status (sym c.in-Some.ensures.value) refl c.in-Ok.ensures.goes
+
+pub returns-in-Ok-clause-says : goal.returns-in-Ok-clause-says
+returns-in-Ok-clause-says g c =
+    let call : Call = record {
+      words = map string_bytes c.args.words.now;
+      host = change (g.H.Host.state c.args.host.now) (g.H.Host.state c.fulfil.new.host);
+      out = change (g.O.Sink.state c.args.out.now) (g.O.Sink.state c.fulfil.new.out);
+      err = change (g.E.Sink.state c.args.err.now) (g.E.Sink.state c.args.err.now);
+    } in
+    says-written call (order_in c.in-Some.command) c.in-Ok.status (sym c.in-Some.ensures.value) refl c.in-Ok.ensures.written
 
 pub returns-in-Err-clause-goes_through : goal.returns-in-Err-clause-goes_through
 returns-in-Err-clause-goes_through g c =
