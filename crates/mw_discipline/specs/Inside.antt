@@ -1,9 +1,12 @@
--- Inside: what is kept of a block, and of which blocks a synchronizing event changes the status.
-use Rattle.std.specs.Prelude.{ℕ, ◌≡◌, ◌+◌, ◌/◌, ◌<◌, ◌==◌, ◌||◌, All, Bool, true, false, List, [], ◌∷◌, ◌++◌, length, Option, Some, None, slice_index_or, slice_set}
+-- Inside: what is kept of a block, of which blocks a synchronizing event changes the status, and how translations are kept.
+use Rattle.std.specs.List.{AllByRecursion}
+use Rattle.std.specs.Prelude.{ℕ, ◌≡◌, ◌+◌, ◌/◌, ◌^◌, ◌<◌, ◌==◌, ◌&&◌, ◌||◌, nat_lt, All, Bool, true, false, List, [], ◌∷◌, ◌++◌, length, Option, Some, None, slice_index_or, slice_set}
 use Rattle.mw_isa.specs.declared.access.Span.{Span}
 use Rattle.mw_isa.specs.declared.offence.BlockStatus.{BlockStatus}
 use Rattle.mw_isa.specs.declared.offence.BlockStatus.TheVariants.{Changed as ChangedBlock, Invalidated as InvalidatedBlock}
+use Rattle.mw_isa.specs.declared.walk.KeptEntry.{KeptEntry}
 use Rattle.mw_isa.specs.Discipline.{block_count}
+use Rattle.mw_isa.specs.Entries.{AreOrdered}
 use Rattle.mw_discipline.specs.declared.place.Place.{Place}
 use Rattle.mw_discipline.specs.declared.place.Place.TheVariants.{Clean, Changed, Invalidated, Again}
 
@@ -72,3 +75,18 @@ pub record AreListed (places : List Place) (waiting : List ℕ) : Type 0 where
 -- the number of the first block behind a stretch of RAM
 abbrev pub past_block : Span → ℕ
 past_block span = (span.at + span.len + 63) / 64
+
+-- translations that are kept, and how many more there is room for
+pub record Listed : Type 0 where
+  pub items : List KeptEntry
+  pub room : ℕ
+
+-- a translation stands before those of a page for a process
+abbrev pub is_before : ℕ → ℕ → KeptEntry → Bool
+is_before pid page entry = nat_lt entry.pid pid || entry.pid == pid && nat_lt entry.page page
+
+-- translations stand each once and in their order, at real pages; and where none may be leaving, none is
+pub record AreKept (items : List KeptEntry) (leaving : Bool) : Type 0 where
+  pub ordered : AreOrdered items
+  pub low : AllByRecursion (λ entry. entry.real < 2 ^ 52) items
+  pub still : leaving ≡ false → AllByRecursion (λ entry. entry.leaving ≡ false) items

@@ -2,8 +2,11 @@
 #![tactic(auto)]
 
 mod blocks;
+mod entries;
 mod monitor;
+mod order;
 mod place;
 
 pub use monitor::Monitor;
+pub use mw_isa::KeptEntry;
 pub use mw_radix::{RamTables, Tables};

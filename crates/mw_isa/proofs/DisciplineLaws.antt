@@ -17,9 +17,9 @@ use Rattle.mw_isa.specs.declared.memory.MemOp.{MemOp}
 use Rattle.mw_isa.specs.declared.memory.MemWhat.{MemWhat}
 use Rattle.mw_isa.specs.declared.memory.MemWhat.TheVariants.{Load as Loads, Store as Stores, Conditional, Zero, Clean, Icbi as GivesUp}
 use Rattle.mw_isa.specs.declared.numbered.Use.TheVariants.{Write}
-use Rattle.mw_isa.specs.declared.offence.Access.{Access}
 use Rattle.mw_isa.specs.declared.offence.BlockStatus.{BlockStatus}
 use Rattle.mw_isa.specs.declared.offence.BlockStatus.TheVariants.{Changed, Invalidated}
+use Rattle.mw_isa.specs.declared.offence.Why.{Why}
 use Rattle.mw_isa.specs.declared.operation.Operation.{Operation}
 use Rattle.mw_isa.specs.declared.operation.Operation.TheVariants.{Alu, Product, Quotient, Branch, Field, Fields, Pick, Trap as TrapRow, Storage, Hint, Call, System}
 use Rattle.mw_isa.specs.declared.operation.SystemWhat.{SystemWhat}
@@ -38,7 +38,7 @@ use Rattle.mw_isa.specs.declared.regs.Regs.{Regs}
 use Rattle.mw_isa.specs.declared.system.SysOp.{SysOp}
 use Rattle.mw_isa.specs.declared.system.SysOp.TheVariants.{ReadSpr as ReadBy, WriteSpr as WriteBy, WriteMsr as MsrWritten, Return as Returning, Tlbie as GivingUp, Sync as Ordering, Isync as FetchingAnew}
 use Rattle.mw_isa.specs.declared.vector.Vector.TheVariants.{Program}
-use Rattle.mw_isa.specs.Discipline.{IsInRam, Kept, block_count, blocks_in, changed_by, changed_from, clean_blocks, cleaned, deed_kept, fetch_access, fetch_why, given_up, invalidated_at, nothing_kept, offends, status_in, status_of, synced}
+use Rattle.mw_isa.specs.Discipline.{IsInRam, Kept, access_by, block_count, blocks_in, changed_by, changed_from, clean_blocks, cleaned, deed_kept, fetch_touch, first_by, first_of, given_up, invalidated_at, nothing_kept, offends, status_in, status_of, synced, used_kept, why_by}
 use Rattle.mw_isa.specs.Execute.{access_of, behind_insn, branch_to, effect_of, exec_of, is_refused, refusal, system_effect, traps}
 use Rattle.mw_isa.specs.Fetch.{fetch_at, fetched, word_page}
 use Rattle.mw_isa.specs.Msr.{bit_at, trap_place}
@@ -50,11 +50,11 @@ use Rattle.mw_isa.specs.Reads.{operands_of}
 use Rattle.mw_isa.specs.Slots.{get_slot}
 use Rattle.mw_isa.specs.Sprs.{register_for}
 use Rattle.mw_isa.specs.State.{State}
-use Rattle.mw_isa.specs.Statuses.{HasBlocks, HasBytes, behind_event, behind_events, gives_up, is_icbi_of, is_store_to, is_sync, meets, status_behind, status_by, stores_to}
+use Rattle.mw_isa.specs.Statuses.{HasBlocks, HasBytes, Watched, behind_event, behind_events, gives_up, is_icbi_of, is_store_to, is_sync, meets, status_behind, status_by, stores_to}
 use Rattle.mw_isa.specs.Step.{UnderWay, deed_at, deed_of, outcome_of, placed_of, raises_of, step, under_way_of}
 use Rattle.mw_isa.specs.Storage.{IsPlaced, IsSized, OnMemory, block_of, deed_by, first_byte, is_reserved, is_sized_by, pages_of, store_deed}
 use Rattle.mw_isa.specs.System.{is_table, system_deed}
-use Rattle.mw_isa.specs.Translate.{page_real}
+use Rattle.mw_isa.specs.Translate.{page_real, translate_of}
 use Rattle.mw_isa.specs.Words.{insn_of}
 use Rattle.mw_isa.proofs.PageLaws.{placed-by}
 use Rattle.mw_isa.proofs.StorageLaws.{storage-sized}
@@ -98,9 +98,11 @@ blocks-if true kept all = synced-blocks kept all
 blocks-if false kept all = all
 
 -- an event leaves all blocks
-pub event-blocks : (kept : Kept) (event : Option Packet) → HasBlocks kept → HasBlocks (behind_event kept event)
+pub event-blocks : (kept : Kept) (event : Option Watched) → HasBlocks kept → HasBlocks (behind_event kept event)
 event-blocks kept None all = synced-blocks kept all
-event-blocks kept (Some packet) all = blocks-if (is_sync (Some packet)) (deed_kept packet.deed kept) (deed-blocks packet.deed kept all)
+event-blocks kept (Some it) all =
+    let used = used_kept it.ram it.regs it.packet kept in
+    blocks-if (is_sync (Some it)) (deed_kept it.packet.deed used) (deed-blocks it.packet.deed used all)
 
 -- ---- the status of a block
 
@@ -196,10 +198,11 @@ behind-by true kept block status e = status-synced kept block ∙ ap cleaned e
 behind-by false kept block status e = e
 
 -- a block behind an event has the status that the event gives it
-pub status-event : (kept : Kept) (event : Option Packet) (block : ℕ) → HasBlocks kept → block < block_count → status_of (behind_event kept event) block ≡ status_behind block event (status_of kept block)
+pub status-event : (kept : Kept) (event : Option Watched) (block : ℕ) → HasBlocks kept → block < block_count → status_of (behind_event kept event) block ≡ status_behind block event (status_of kept block)
 status-event kept None block all below = status-synced kept block
-status-event kept (Some packet) block all below =
-    behind-by (is_sync (Some packet)) (deed_kept packet.deed kept) block (status_by block (Some packet) (status_of kept block)) (status-deed packet.deed kept block all below)
+status-event kept (Some it) block all below =
+    let used = used_kept it.ram it.regs it.packet kept in
+    behind-by (is_sync (Some it)) (deed_kept it.packet.deed used) block (status_by block (Some it) (status_of kept block)) (status-deed it.packet.deed used block all below)
 
 -- ---- what a stretch meets
 
@@ -242,23 +245,23 @@ stores-byte (first ∷ spans) block some e = elim (or_cases (meets block first) 
 -- ---- what marks a block, and what cleans it
 
 -- the status of a block behind events, by that before them
-past : ℕ → List (Option Packet) → Option BlockStatus → Option BlockStatus
+past : ℕ → List (Option Watched) → Option BlockStatus → Option BlockStatus
 past block [] status = status
 past block (event ∷ events) status = past block events (status_behind block event status)
 
 -- events leave all blocks
-pub events-blocks : (events : List (Option Packet)) (kept : Kept) → HasBlocks kept → HasBlocks (behind_events kept events)
+pub events-blocks : (events : List (Option Watched)) (kept : Kept) → HasBlocks kept → HasBlocks (behind_events kept events)
 events-blocks [] kept all = all
 events-blocks (event ∷ events) kept all = events-blocks events (behind_event kept event) (event-blocks kept event all)
 
-status-events : (events : List (Option Packet)) (kept : Kept) (block : ℕ) → HasBlocks kept → block < block_count → status_of (behind_events kept events) block ≡ past block events (status_of kept block)
+status-events : (events : List (Option Watched)) (kept : Kept) (block : ℕ) → HasBlocks kept → block < block_count → status_of (behind_events kept events) block ≡ past block events (status_of kept block)
 unfolding past
 status-events [] kept block all below = refl
 status-events (event ∷ events) kept block all below =
     status-events events (behind_event kept event) block (event-blocks kept event all) below
     ∙ ap (past block events) (status-event kept event block all below)
 
-past-append : (events others : List (Option Packet)) (block : ℕ) (status : Option BlockStatus) → past block (events ++ others) status ≡ past block others (past block events status)
+past-append : (events others : List (Option Watched)) (block : ℕ) (status : Option BlockStatus) → past block (events ++ others) status ≡ past block others (past block events status)
 unfolding past
 past-append [] others block status = refl
 past-append (event ∷ events) others block status = past-append events others block (status_behind block event status)
@@ -336,7 +339,7 @@ clean-part store icbi false status e syncs calm = cc
 clean-part store icbi sync (Some Changed) e syncs calm = cc
 
 -- the same behind events
-changed-past : (events : List (Option Packet)) (block : ℕ) (status : Option BlockStatus) → list_any (is_icbi_of block) events ≡ false → status ≡ Some Changed → past block events status ≡ Some Changed
+changed-past : (events : List (Option Watched)) (block : ℕ) (status : Option BlockStatus) → list_any (is_icbi_of block) events ≡ false → status ≡ Some Changed → past block events status ≡ Some Changed
 unfolding past status_of_parts
 changed-past [] block status none e = e
 changed-past (event ∷ events) block status none e =
@@ -344,14 +347,14 @@ changed-past (event ∷ events) block status none e =
     changed-past events block (status_behind block event status) parts.1
     (ap (status_behind block event) e ∙ changed-part (is_store_to block event) (is_icbi_of block event) (is_sync event) parts.0)
 
-stale-past : (events : List (Option Packet)) (block : ℕ) (status : Option BlockStatus) → list_any is_sync events ≡ false → is_some status ≡ true → is_some (past block events status) ≡ true
+stale-past : (events : List (Option Watched)) (block : ℕ) (status : Option BlockStatus) → list_any is_sync events ≡ false → is_some status ≡ true → is_some (past block events status) ≡ true
 unfolding past status_of_parts
 stale-past [] block status none stale = stale
 stale-past (event ∷ events) block status none stale =
     let parts = or_parts (is_sync event) (list_any is_sync events) none in
     stale-past events block (status_behind block event status) parts.1 (stale-part (is_store_to block event) (is_icbi_of block event) (is_sync event) status parts.0 stale)
 
-calm-past : (events : List (Option Packet)) (block : ℕ) (status : Option BlockStatus) → list_any (is_store_to block) events ≡ false → is_changed status ≡ false → is_changed (past block events status) ≡ false
+calm-past : (events : List (Option Watched)) (block : ℕ) (status : Option BlockStatus) → list_any (is_store_to block) events ≡ false → is_changed status ≡ false → is_changed (past block events status) ≡ false
 unfolding past status_of_parts
 calm-past [] block status none calm = calm
 calm-past (event ∷ events) block status none calm =
@@ -367,12 +370,12 @@ icbi-deed (Tlbie scope) block e = refl
 icbi-deed Sync block e = refl
 icbi-deed NewTable block e = refl
 
-icbi-stores : (event : Option Packet) (block : ℕ) → is_icbi_of block event ≡ true → is_store_to block event ≡ false
+icbi-stores : (event : Option Watched) (block : ℕ) → is_icbi_of block event ≡ true → is_store_to block event ≡ false
 icbi-stores None block e = refl
-icbi-stores (Some packet) block e = icbi-deed packet.deed block e
+icbi-stores (Some it) block e = icbi-deed it.packet.deed block e
 
 -- a block is changed behind an event that stores to it
-pub store-marks : (kept : Kept) (store : Option Packet) (block : ℕ) → HasBlocks kept → block < block_count → is_store_to block store ≡ true → status_of (behind_event kept store) block ≡ Some Changed
+pub store-marks : (kept : Kept) (store : Option Watched) (block : ℕ) → HasBlocks kept → block < block_count → is_store_to block store ≡ true → status_of (behind_event kept store) block ≡ Some Changed
 unfolding status_of_parts
 store-marks kept store block all below e =
     status-event kept store block all below
@@ -380,7 +383,7 @@ store-marks kept store block all below e =
 
 -- behind an icbi of a block and a synchronizing event, with no store to the block from the one to the other, the block is
 -- clean, whatever was done to it before
-pub icbi-cleans : (kept : Kept) (before between : List (Option Packet)) (icbi sync : Option Packet) (block : ℕ) → HasBlocks kept → block < block_count → is_icbi_of block icbi ≡ true → list_any (is_store_to block) between ≡ false → is_sync sync ≡ true → is_store_to block sync ≡ false → status_of (behind_events kept (before ++ icbi ∷ between ++ sync ∷ [])) block ≡ None
+pub icbi-cleans : (kept : Kept) (before between : List (Option Watched)) (icbi sync : Option Watched) (block : ℕ) → HasBlocks kept → block < block_count → is_icbi_of block icbi ≡ true → list_any (is_store_to block) between ≡ false → is_sync sync ≡ true → is_store_to block sync ≡ false → status_of (behind_events kept (before ++ icbi ∷ between ++ sync ∷ [])) block ≡ None
 unfolding past status_of_parts
 icbi-cleans kept before between icbi sync block all below gives apart syncs calm =
     let status = past block before (status_of kept block) in
@@ -392,23 +395,30 @@ icbi-cleans kept before between icbi sync block all below gives apart syncs calm
     ∙ clean-part (is_store_to block sync) (is_icbi_of block sync) (is_sync sync) (past block between (status_behind block icbi status)) calm syncs still
 
 -- behind a store to a block, and no icbi of it, the block is changed
-pub stale-without_icbi : (kept : Kept) (store : Option Packet) (behind : List (Option Packet)) (block : ℕ) → HasBlocks kept → block < block_count → is_store_to block store ≡ true → list_any (is_icbi_of block) behind ≡ false → status_of (behind_events kept (store ∷ behind)) block ≡ Some Changed
+pub stale-without_icbi : (kept : Kept) (store : Option Watched) (behind : List (Option Watched)) (block : ℕ) → HasBlocks kept → block < block_count → is_store_to block store ≡ true → list_any (is_icbi_of block) behind ≡ false → status_of (behind_events kept (store ∷ behind)) block ≡ Some Changed
 stale-without_icbi kept store behind block all below stores none =
     status-events behind (behind_event kept store) block (event-blocks kept store all) below
     ∙ changed-past behind block (status_of (behind_event kept store) block) none (store-marks kept store block all below stores)
 
 -- behind a store to a block, and no synchronizing event, the block isn't clean
-pub stale-without_sync : (kept : Kept) (store : Option Packet) (behind : List (Option Packet)) (block : ℕ) → HasBlocks kept → block < block_count → is_store_to block store ≡ true → list_any is_sync behind ≡ false → is_some (status_of (behind_events kept (store ∷ behind)) block) ≡ true
+pub stale-without_sync : (kept : Kept) (store : Option Watched) (behind : List (Option Watched)) (block : ℕ) → HasBlocks kept → block < block_count → is_store_to block store ≡ true → list_any is_sync behind ≡ false → is_some (status_of (behind_events kept (store ∷ behind)) block) ≡ true
 stale-without_sync kept store behind block all below stores none =
     ap is_some (status-events behind (behind_event kept store) block (event-blocks kept store all) below)
     ∙ stale-past behind block (status_of (behind_event kept store) block) none (ap is_some (store-marks kept store block all below stores))
 
 -- ---- what an offence depends on
 
--- two instructions at one address of which the fetch of one offends have one offence
-pub offence-same : (kept : Kept) (ram : List ℕ) (regs : Regs) (packet other : Packet) (access : Access) → other.cia ≡ packet.cia → access.kind ≡ Fetch → offends kept ram regs packet ≡ Some access → offends kept ram regs other ≡ Some access
-offence-same kept ram regs packet other access same fetch e =
-    ap (λ (at : ℕ). option_map (fetch_access at) (fetch_why kept (page_real ram regs (word_page at)))) same ∙ e
+-- an instruction whose fetch breaks the discipline has it as its first access that does
+pub offence-fetch : (kept : Kept) (ram : List ℕ) (regs : Regs) (packet : Packet) (why : Why) → why_by kept regs (fetch_touch packet.cia) (translate_of ram regs Fetch packet.cia) ≡ Some why → offends kept ram regs packet ≡ Some (access_by (fetch_touch packet.cia) why)
+offence-fetch kept ram regs packet why e =
+    ap (λ (breaks : Option Why). first_by (option_map (access_by (fetch_touch packet.cia)) breaks) (translate_of ram regs Fetch packet.cia) (first_of kept ram regs packet.touches.items)) e
+
+-- two instructions at one address of which the fetch of one breaks the discipline have one offence
+pub offence-same : (kept : Kept) (ram : List ℕ) (regs : Regs) (packet other : Packet) (why : Why) → other.cia ≡ packet.cia → why_by kept regs (fetch_touch packet.cia) (translate_of ram regs Fetch packet.cia) ≡ Some why → offends kept ram regs other ≡ offends kept ram regs packet
+offence-same kept ram regs packet other why same e =
+    offence-fetch kept ram regs other why (ap (λ (at : ℕ). why_by kept regs (fetch_touch at) (translate_of ram regs Fetch at)) same ∙ e)
+    ∙ ap (λ (at : ℕ). Some (access_by (fetch_touch at) why)) same
+    ∙ sym (offence-fetch kept ram regs packet why e)
 
 -- ---- where the deed of an instruction lies
 

@@ -22,4 +22,6 @@ pub mod StorageLaws
 pub mod PageLaws
 pub mod StorageCases
 pub mod DisciplineLaws
+pub mod EntryLaws
+pub mod KeptLaws
 pub mod DeedLaws

@@ -122,7 +122,7 @@ abbrev IsBeside : ℕ → ℕ → Type 0
 IsBeside ea at = (at < 2 ^ 60) × (at % page_size ≡ ea % page_size)
 
 -- the low twelve bits of a longer remainder are those of the number
-low-same : (x left : ℕ) → 12 ≤ left → x % 2 ^ left % 4096 ≡ x % 4096
+pub low-same : (x left : ℕ) → 12 ≤ left → x % 2 ^ left % 4096 ≡ x % 4096
 low-same x left long =
     let whole : left ≡ (left - 12) + 12 = omega arith in
     ap (λ (n : ℕ). x % 2 ^ n % 4096) whole ∙ mod-mod-pow x (left - 12) 12

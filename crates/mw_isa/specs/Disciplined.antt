@@ -13,8 +13,8 @@ use Rattle.mw_isa.specs.Replay.{applied, cycle_of_event}
 
 -- what is kept behind an event, by the state before it, whose devices stand at its cycle
 abbrev pub kept_behind : Kept → Event → State → Kept
-kept_behind kept (Retire cycle cia word suffix) state = after kept (next_packet state)
-kept_behind kept (Trap cycle cia vector) state = after kept (next_packet state)
+kept_behind kept (Retire cycle cia word suffix) state = after kept state.ram state.regs (next_packet state)
+kept_behind kept (Trap cycle cia vector) state = after kept state.ram state.regs (next_packet state)
 kept_behind kept (Irq cycle nia vector) state = synced kept
 
 -- what is kept behind events, one after another, where each is defined

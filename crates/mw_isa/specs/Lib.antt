@@ -35,6 +35,7 @@ pub mod Depends
 pub mod Choose
 pub mod Replay
 pub mod Cycle
+pub mod Entries
 pub mod Discipline
 pub mod Statuses
 pub mod Stops

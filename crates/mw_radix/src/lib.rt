@@ -10,5 +10,5 @@ mod walker;
 
 pub use mw_isa::{Leaf, WalkFault};
 pub use tables::{RamTables, Tables};
-pub use translating::{found_by, is_translated, permits, translate};
+pub use translating::{found_by, is_translated, permits, quadrant_of, translate};
 pub use walker::Walker;

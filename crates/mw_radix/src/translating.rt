@@ -10,8 +10,9 @@ use mw_isa::{
     DR, IR, KeptEntry, Kind, Leaf, PR, Regs, StorageFault, Translated, WalkFault, has_bit,
 };
 
-/// The process whose tree an effective address belongs to.
-fn quadrant_of(pidr: u32, ea: u64) -> Result<u32, StorageFault>
+/// The process whose tree an effective address belongs to: that of PIDR in quadrant 0, process 0 in quadrant 3 (Book III,
+/// radix tree translation). Another quadrant is a segment fault.
+pub fn quadrant_of(pidr: u32, ea: u64) -> Result<u32, StorageFault>
     ensures { result ≡ quadrant_of pidr ea }
 {
     match ea >> 62 {
