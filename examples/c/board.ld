@@ -9,9 +9,11 @@ SECTIONS
         /DISCARD/ : { *(.note .note.* .comment .eh_frame .eh_frame_hdr .gnu.attributes) }
         .text 0 : { *(.start) *(.text .text.* .sfpr .glink) } > ram : code
         .rodata : { *(.rodata .rodata.*) } > ram : code
-        .data : { *(.data .data.* .sdata .sdata.* .got .toc .branch_lt .iplt) } > ram : data
+        /* What is stored to begins in a block of 64 bytes of its own: a store marks its whole block, and the run stops where
+           code of a marked block is fetched. Each of the two says so, since ld leaves out one that is empty. */
+        .data : ALIGN(64) { *(.data .data.* .sdata .sdata.* .got .toc .branch_lt .iplt) } > ram : data
         /* It stands last, so the image ends before it: RAM behind an image is zeros. */
-        .bss (NOLOAD) : { *(.bss .bss.* .sbss .sbss.* COMMON) } > ram : data
+        .bss (NOLOAD) : ALIGN(64) { *(.bss .bss.* .sbss .sbss.* COMMON) } > ram : data
         end_of_program = .;
         stack_top = ORIGIN(ram) + LENGTH(ram);
         ASSERT(start == 0, "the start file doesn't stand at 0")

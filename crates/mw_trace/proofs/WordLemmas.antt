@@ -1,16 +1,14 @@
 -- A word is read as the number that writes it.
-use Rattle.std.proofs.Common.{◌≡◌, ℕ, ◌^◌, ◌<◌, ◌≤◌, ◌≢◌, ◌&&◌, nat_lt, Bool, true, false, cond, List, [], ◌∷◌, Option, Some, None, Result, Ok, Err, bytes_eq, decimal, refl, sym, ap, ap₂, ◌∙◌, subst, arith}
+use Rattle.std.proofs.Common.{◌≡◌, ℕ, ◌^◌, ◌<◌, ◌≤◌, ◌&&◌, nat_lt, Bool, true, false, cond, List, [], ◌∷◌, Option, Some, None, bytes_eq, decimal, refl, sym, ap, ap₂, ◌∙◌, subst, arith}
 use Rattle.std.specs.Char.{digit_value, is_ascii_hexdigit}
 use Rattle.std.specs.List.{list_all}
-use Rattle.std.specs.Result.{OkIff}
 use Rattle.std.specs.Str.{IsAscii, IsUtf8}
-use Rattle.std.specs.Str.Parse.{AllDigits, IsNumeral, digits_value, ParsesUnsigned, without_leading_plus}
+use Rattle.std.specs.Str.Parse.{AllDigits, IsNumeral, digits_value}
 use Rattle.std.proofs.lemmas.Bool.{and_parts, false≢true, ltb-true, lt-ltb}
 use Rattle.std.proofs.lemmas.Bool.Decides.{nat_tests}
 use Rattle.std.proofs.lemmas.Slice.Eq.{bytes_eq-Decides}
 use Rattle.std.proofs.lemmas.Str.{IsUtf8-from_ascii}
 use Rattle.std.proofs.lemmas.Str.Ascii.{IsAscii-nil, IsAscii-cons}
-use Rattle.std.proofs.lemmas.Str.Parse.{without_leading_plus_none}
 use Rattle.std.proofs.lemmas.Fmt.{decimal_is_IsNumeral}
 use Rattle.std.proofs.lemmas.Int.Digits.{digits_value-lt}
 use Rattle.std.proofs.lemmas.Option.{cond_some}
@@ -29,32 +27,7 @@ digits-ascii radix [] high are = IsAscii-nil
 digits-ascii radix (c ∷ cs) high are =
     IsAscii-cons c cs (digit-small radix c high are.0) (digits-ascii radix cs high are.1)
 
--- a plus isn't a digit
-plus-other : (radix c : ℕ) → radix ≤ 36 → digit_value c < radix → c ≢ 43
-plus-other radix c high is e = let large : digit_value c ≡ 36 = ap digit_value e in omega arith
-
--- no plus stands before a numeral
-plain : (radix : ℕ) (word : List ℕ) → radix ≤ 36 → IsNumeral radix word → without_leading_plus word ≡ word
-plain radix [] high are = absurd (omega (arith, are.0))
-plain radix (c ∷ cs) high are = without_leading_plus_none (c ∷ cs) (plus-other radix c high are.1.0)
-
--- what is there exactly under a condition is there where it holds
-ok_by : {E : Type 0} (P : Type 0) (v : ℕ) (r : Result ℕ E) → OkIff r P v → P → r ≡ Ok v
-ok_by P v (Ok x) h p = ap Ok h.1
-ok_by P v (Err e) h p = absurd (h p)
-
--- a numeral of 64 bits is read as its number
-pub parsed-numeral :
-    {E : Type 0} (radix : ℕ) (word : List ℕ) (r : Result ℕ E) → radix ≤ 36 → ParsesUnsigned 64 radix word r
-    → IsNumeral radix word → digits_value radix word < 2 ^ 64 → r ≡ Ok (digits_value radix word)
-parsed-numeral radix word r high parses are small =
-    let same = plain radix word high are in
-    let P : List ℕ → Type 0 =
-    λ w. OkIff r (IsNumeral radix w × (digits_value radix w < 2 ^ 64)) (digits_value radix w) in
-    ok_by (IsNumeral radix word × (digits_value radix word < 2 ^ 64)) (digits_value radix word) r (subst P same parses)
-    (are, small)
-
--- what a word that isn't read as a number of 64 bits isn't
+-- a numeral is UTF-8
 pub unread-numeral : (radix : ℕ) (word : List ℕ) → radix ≤ 36 → IsNumeral radix word → IsUtf8 word
 unread-numeral radix word high are = IsUtf8-from_ascii word (digits-ascii radix word high are.1)
 
