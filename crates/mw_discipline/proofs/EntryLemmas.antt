@@ -139,6 +139,34 @@ unfolding IsStrictlySortedBy
 past-page first others now kind problem pid page all before here =
     none-for (first ∷ others) now kind problem pid page (here, all-beyond first others pid page before here all.0)
 
+-- ---- from a place on
+
+-- where the one at a place is behind a page, none from there on is stale
+pub past-at : (place : ℕ) (entries : List KeptEntry) (now : Result Translated StorageFault) (kind : Kind) (problem : Bool) (pid page : ℕ) (d : KeptEntry) → AreOrdered entries → place < length entries → is_before pid page (get_or entries place d) ≡ false → is_for pid page (get_or entries place d) ≡ false → find (is_stale now kind problem pid page) (drop place entries) ≡ None
+unfolding IsStrictlySortedBy
+past-at place [] now kind problem pid page d all within before here = absurd (omega arith)
+past-at zero (first ∷ others) now kind problem pid page d all within before here = past-page first others now kind problem pid page all before here
+past-at (suc place) (first ∷ others) now kind problem pid page d all within before here = past-at place others now kind problem pid page d all.1 (omega arith) before here
+
+-- where the one at a place is stale, it is the first from there on
+pub found-at : (place : ℕ) (entries : List KeptEntry) (now : Result Translated StorageFault) (kind : Kind) (problem : Bool) (pid page : ℕ) (d : KeptEntry) → place < length entries → is_stale now kind problem pid page (get_or entries place d) ≡ true → find (is_stale now kind problem pid page) (drop place entries) ≡ Some (get_or entries place d)
+found-at place [] now kind problem pid page d within here = absurd (omega arith)
+found-at zero (first ∷ others) now kind problem pid page d within here = ap (λ (b : Bool). cond b (Some first) (find (is_stale now kind problem pid page) others)) here
+found-at (suc place) (first ∷ others) now kind problem pid page d within here = found-at place others now kind problem pid page d (omega arith) here
+
+-- and where it isn't, the first is behind it
+pub next-at : (place : ℕ) (entries : List KeptEntry) (now : Result Translated StorageFault) (kind : Kind) (problem : Bool) (pid page : ℕ) (d : KeptEntry) → place < length entries → is_stale now kind problem pid page (get_or entries place d) ≡ false → find (is_stale now kind problem pid page) (drop (suc place) entries) ≡ find (is_stale now kind problem pid page) (drop place entries)
+next-at place [] now kind problem pid page d within here = absurd (omega arith)
+next-at zero (first ∷ others) now kind problem pid page d within here = sym (ap (λ (b : Bool). cond b (Some first) (find (is_stale now kind problem pid page) others)) here)
+next-at (suc place) (first ∷ others) now kind problem pid page d within here = next-at place others now kind problem pid page d (omega arith) here
+
+-- behind the last there is none
+pub end-at : (place : ℕ) (entries : List KeptEntry) (now : Result Translated StorageFault) (kind : Kind) (problem : Bool) (pid page : ℕ) → length entries ≤ place → find (is_stale now kind problem pid page) (drop place entries) ≡ None
+end-at zero [] now kind problem pid page past = refl
+end-at (suc place) [] now kind problem pid page past = refl
+end-at zero (first ∷ others) now kind problem pid page past = absurd (omega arith)
+end-at (suc place) (first ∷ others) now kind problem pid page past = end-at place others now kind problem pid page (omega arith)
+
 -- none before a page is stale
 pub skipped : (place : ℕ) (entries : List KeptEntry) (now : Result Translated StorageFault) (kind : Kind) (problem : Bool) (pid page : ℕ) → place ≤ length entries → ((k : ℕ) (d : KeptEntry) → 0 ≤ k → k < place → is_before pid page (get_or entries k d) ≡ true) → find (is_stale now kind problem pid page) (drop place entries) ≡ find (is_stale now kind problem pid page) entries
 skipped zero entries now kind problem pid page within before = refl
@@ -166,13 +194,14 @@ before-first entries pid page all i j d upto within before = first-by (nat_lt i 
 
 -- ---- invalidations, and synchronizing events
 
--- those before a place are changed, and the one there is
-pub changed-next : (f : KeptEntry → KeptEntry) (place : ℕ) (entries items : List KeptEntry) (d : KeptEntry) → items ≡ take place (map f entries) ++ drop place entries → place < length entries → set items place (f (get_or items place d)) ≡ take (place + 1) (map f entries) ++ drop (place + 1) entries
-changed-next f place [] items d e within = absurd (omega arith)
-changed-next f zero (first ∷ others) items d e within = ap (λ (xs : List KeptEntry). set xs 0 (f (get_or xs 0 d))) e
-changed-next f (suc place) (first ∷ others) items d e within =
-    ap (λ (xs : List KeptEntry). set xs (suc place) (f (get_or xs (suc place) d))) e
-    ∙ ap (λ (rest : List KeptEntry). f first ∷ rest) (changed-next f place others (take place (map f others) ++ drop place others) d refl (omega arith))
+-- those before a place are changed, and then the one there is
+pub changed-next : (f : KeptEntry → KeptEntry) (place : ℕ) (entries items : List KeptEntry) (d y : KeptEntry) → items ≡ take place (map f entries) ++ drop place entries → place < length entries → y ≡ f (get_or items place d) → set items place y ≡ take (suc place) (map f entries) ++ drop (suc place) entries
+changed-next f place [] items d y e within is = absurd (omega arith)
+changed-next f zero (first ∷ others) items d y e within is =
+    ap (λ (xs : List KeptEntry). set xs 0 y) e ∙ ap (λ (x : KeptEntry). x ∷ others) (is ∙ ap (λ (xs : List KeptEntry). f (get_or xs 0 d)) e)
+changed-next f (suc place) (first ∷ others) items d y e within is =
+    ap (λ (xs : List KeptEntry). set xs (suc place) y) e
+    ∙ ap (λ (rest : List KeptEntry). f first ∷ rest) (changed-next f place others (take place (map f others) ++ drop place others) d y refl (omega arith) (is ∙ ap (λ (xs : List KeptEntry). f (get_or xs (suc place) d)) e))
 
 -- an invalidation that reaches none leaves all as they are
 pub none-left : (entries : List KeptEntry) → entries ≡ map (left_by Nothing) entries

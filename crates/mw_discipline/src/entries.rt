@@ -1,5 +1,6 @@
-ghost use Rattle.std.specs.Prelude.{◌≡◌, ◌+◌, ◌≤◌, ◌<◌, ◌^◌, [], false, IfSome, OnOk, map};
+ghost use Rattle.std.specs.Prelude.{◌≡◌, ◌+◌, ◌≤◌, ◌<◌, ◌^◌, [], false, true, length, IfSome, OnOk, map};
 ghost use Rattle.std.specs.List.{filter, find};
+ghost use Rattle.std.specs.List.Sorted.{IsPartitionPoint};
 ghost use Rattle.mw_isa.specs.Entries.{is_stale, left_by, order_of, stays, with_entry};
 ghost use Rattle.mw_discipline.specs.Inside.{is_before};
 
@@ -31,13 +32,22 @@ impl Model for Entries {
     ghost invariant = { λ e. AreKept e.items.items e.leaving };
 }
 
+/// A translation behind an invalidation: it is leaving where that reaches it.
+fn left_by(scope: Scope, entry: KeptEntry) -> KeptEntry
+    ensures { result ≡ left_by scope entry }
+{
+    KeptEntry {
+        leaving: scope.has(entry.pid, entry.page) || entry.leaving,
+        ..entry
+    }
+}
+
 /// Marks those that a scope reaches as leaving.
 fn mark(items: &mut Vec<KeptEntry>, scope: Scope)
     ensures { items.new.items ≡ map (left_by scope) items.old.items }
 {
     for place in 0..items.len() {
-        let entry = items[place];
-        items[place].leaving = scope.has(entry.pid, entry.page) || entry.leaving;
+        items[place] = left_by(scope, items[place]);
     }
 }
 
@@ -79,6 +89,17 @@ impl Entries {
         }
     }
 
+    /// The place of the first of a page for a process, or where it would stand.
+    fn first_of(&self, pid: u32, page: u64) -> usize
+        ensures bound { result ≤ length self.now.items }
+        ensures parted { IsPartitionPoint (λ kept. is_before pid page kept ≡ true) (λ kept. is_before pid page kept ≡ false) self.now.items result }
+    {
+        let before = |kept: &KeptEntry| -> bool
+            ensures { result ≡ is_before pid page kept.now }
+        { is_before(kept, pid, page) };
+        self.items.partition_point(before)
+    }
+
     /// The first of a page for a process that permits an access of a kind and has another real page than that comes to now.
     pub fn stale(
         &self,
@@ -91,11 +112,7 @@ impl Entries {
         ensures value { result ≡ find (is_stale now.now kind problem pid page) self.now.items }
         ensures low { IfSome result (λ entry. entry.real < 2 ^ 52) }
     {
-        let before = |kept: &KeptEntry| -> bool
-            ensures { result ≡ is_before pid page kept.now }
-        { is_before(kept, pid, page) };
-        let first = self.items.partition_point(before);
-        for place in first..self.items.len() {
+        for place in self.first_of(pid, page)..self.items.len() {
             let entry = self.items[place];
             if !is_for(&entry, pid, page) {
                 return None;

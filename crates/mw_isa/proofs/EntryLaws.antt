@@ -263,7 +263,7 @@ left-by : (is : Bool) (other first : KeptEntry) (scope : Scope) → is_eq (order
 left-by true other first scope e outside =
     let same = same-parts other first e in
     let apart : is_in_scope scope first.pid first.page ≡ false =
-        sym (ap (λ (pid : ℕ). is_in_scope scope pid other.page) same.pid ∙ ap (λ (page : ℕ). is_in_scope scope first.pid page) same.page) ∙ outside in
+    sym (ap (λ (pid : ℕ). is_in_scope scope pid other.page) same.pid ∙ ap (λ (page : ℕ). is_in_scope scope first.pid page) same.page) ∙ outside in
     ap (λ (b : Bool). not (b || first.leaving)) apart
 left-by false other first scope e outside = refl
 
@@ -302,7 +302,7 @@ marks-by : (is : Bool) (scope : Scope) (pid page : ℕ) (first : KeptEntry) → 
 marks-by true scope pid page first e within =
     let parts = and_parts (first.pid == pid) (first.page == page) e in
     let inside : is_in_scope scope first.pid first.page ≡ true =
-        ap (λ (p : ℕ). is_in_scope scope p first.page) (eqb-true first.pid pid parts.0) ∙ ap (λ (p : ℕ). is_in_scope scope pid p) (eqb-true first.page page parts.1) ∙ within in
+    ap (λ (p : ℕ). is_in_scope scope p first.page) (eqb-true first.pid pid parts.0) ∙ ap (λ (p : ℕ). is_in_scope scope pid p) (eqb-true first.page page parts.1) ∙ within in
     ap (λ (b : Bool). not (b || first.leaving)) inside
 marks-by false scope pid page first e within = refl
 
@@ -475,8 +475,8 @@ rule-none why (Some entry) e = cc
 pub calm-page : (kept : Kept) (regs : Regs) (touch : Touch) (now : Result Translated StorageFault) (pid : ℕ) (entry : KeptEntry) → is_translated touch.kind regs.msr ≡ true → quadrant_of regs.pidr touch.ea ≡ Ok pid → page_rule kept regs touch now ≡ None → is_known entry kept.entries ≡ true → is_for pid (touch.ea / page_size) entry ≡ true → lets touch.kind (has_bit regs.msr pr_place) entry ≡ true → IsThere now entry
 calm-page kept regs touch now pid entry on process calm known is allowed =
     let rule : page_rule_in kept.entries now touch.kind (has_bit regs.msr pr_place) touch.ea (Ok pid) ≡ None =
-        sym (ap (λ (b : Bool). cond b (page_rule_in kept.entries now touch.kind (has_bit regs.msr pr_place) touch.ea (quadrant_of regs.pidr touch.ea)) None) on
-        ∙ ap (page_rule_in kept.entries now touch.kind (has_bit regs.msr pr_place) touch.ea) process) ∙ calm in
+    sym (ap (λ (b : Bool). cond b (page_rule_in kept.entries now touch.kind (has_bit regs.msr pr_place) touch.ea (quadrant_of regs.pidr touch.ea)) None) on
+    ∙ ap (page_rule_in kept.entries now touch.kind (has_bit regs.msr pr_place) touch.ea) process) ∙ calm in
     let none = rule-none (page_why touch.kind now) (find (is_stale now touch.kind (has_bit regs.msr pr_place) pid (touch.ea / page_size)) kept.entries) rule in
     let fresh = known-calm entry kept.entries now touch.kind (has_bit regs.msr pr_place) pid (touch.ea / page_size) none known in
     there-by now entry (both-true (is_for pid (touch.ea / page_size) entry) (lets touch.kind (has_bit regs.msr pr_place) entry) (is_elsewhere now entry) is allowed fresh)
@@ -537,7 +537,7 @@ accesses-calm kept ram regs (touch ∷ touches) none clean =
     let now = translate_of ram regs touch.kind touch.ea in
     first-none touch (why_by kept regs touch now) now (first_of kept ram regs touches)
     (both-none (page_rule kept regs touch now) (block_rule kept touch.kind now)
-        (free-calm kept regs touch now (λ pid e. none-any (is_for pid (touch.ea / page_size)) kept.entries none)) (clean-block kept touch.kind now clean))
+    (free-calm kept regs touch now (λ pid e. none-any (is_for pid (touch.ea / page_size)) kept.entries none)) (clean-block kept touch.kind now clean))
     (accesses-calm kept ram regs touches none clean)
 
 -- where no translation is kept and every block is clean, nothing breaks the discipline

@@ -122,8 +122,8 @@ walk-calm before ram earlier regs kind ea near entry kept agree table on process
     let beside : ea / 4096 ≡ near / 4096 = sym kept.page ∙ page in
     let here : (walk_of ram earlier.prtbl entry.pid ea).end ≡ Ok leaf = ap (λ (w : Walked). w.end) (sym (walk-same before ram earlier.prtbl entry.pid ea agree)) ∙ kept.ends in
     let there : (walk_of ram regs.prtbl entry.pid near).end ≡ Ok leaf =
-        ap (λ (prtbl : ℕ). (walk_of ram prtbl entry.pid near).end) table
-        ∙ ap (λ (w : Walked). w.end) (walk-same_page ram earlier.prtbl entry.pid ea near leaf beside here) ∙ here in
+    ap (λ (prtbl : ℕ). (walk_of ram prtbl entry.pid near).end) table
+    ∙ ap (λ (w : Walked). w.end) (walk-same_page ram earlier.prtbl entry.pid ea near leaf beside here) ∙ here in
     let parts = and_parts (permits entry.rights kind (has_bit regs.msr pr_place)) (is_ready kind entry.rights) allowed in
     let permitted : permits leaf.rights kind (has_bit regs.msr pr_place) ≡ true = ap (λ (rights : Rights). permits rights kind (has_bit regs.msr pr_place)) (sym kept.rights) ∙ parts.0 in
     let marked : is_marked leaf kind ≡ true = marks leaf kind kept.referenced (ap (is_ready kind) (sym kept.rights) ∙ parts.1) in
