@@ -100,8 +100,8 @@ pub put-err : (items seen behind : List KeptEntry) (place : ℕ) (entry : KeptEn
 put-err items seen behind place entry is all same within missed ok put =
     if-ok is (insert items place entry) behind items ok put
     ∙ put-between place items entry (subst (λ (xs : List KeptEntry). place ≤ length xs) same within)
-      (subst (λ (xs : List KeptEntry). IsPartitionPoint (λ kept. order_of kept entry ≡ Less) (λ kept. order_of kept entry ≡ Greater) xs place) same
-      (missed (subst (λ (xs : List KeptEntry). IsNonDecreasingBy (λ kept. ordering_index (order_of kept entry)) xs) (sym same) (answers-rise items entry all))))
+    (subst (λ (xs : List KeptEntry). IsPartitionPoint (λ kept. order_of kept entry ≡ Less) (λ kept. order_of kept entry ≡ Greater) xs place) same
+    (missed (subst (λ (xs : List KeptEntry). IsNonDecreasingBy (λ kept. ordering_index (order_of kept entry)) xs) (sym same) (answers-rise items entry all))))
 
 -- ---- those of a page
 
@@ -166,6 +166,32 @@ end-at zero [] now kind problem pid page past = refl
 end-at (suc place) [] now kind problem pid page past = refl
 end-at zero (first ∷ others) now kind problem pid page past = absurd (omega arith)
 end-at (suc place) (first ∷ others) now kind problem pid page past = end-at place others now kind problem pid page (omega arith)
+
+-- the same of a list as it is seen, from one that was read there
+module _ (seen items : List KeptEntry) (now : Result Translated StorageFault) (kind : Kind) (problem : Bool) (pid page place : ℕ) (one : KeptEntry) (same : items ≡ seen) (there : one ≡ get_or items place one) (within : place < length items) (left : find (is_stale now kind problem pid page) (drop place seen) ≡ find (is_stale now kind problem pid page) seen) where
+  from-here : find (is_stale now kind problem pid page) (drop place items) ≡ find (is_stale now kind problem pid page) seen
+  from-here = ap (λ (xs : List KeptEntry). find (is_stale now kind problem pid page) (drop place xs)) same ∙ left
+
+  -- none is stale where it is behind the page
+  pub seen-past : AreOrdered items → is_before pid page (get_or seen place one) ≡ false → is_for pid page one ≡ false → None ≡ find (is_stale now kind problem pid page) seen
+  seen-past all before here =
+      sym (past-at place items now kind problem pid page one all within (ap (λ (xs : List KeptEntry). is_before pid page (get_or xs place one)) same ∙ before) (sym (ap (is_for pid page) there) ∙ here))
+      ∙ from-here
+
+  -- it is the first where it is stale
+  pub seen-found : is_stale now kind problem pid page one ≡ true → Some one ≡ find (is_stale now kind problem pid page) seen
+  seen-found here =
+      ap Some there ∙ sym (found-at place items now kind problem pid page one within (sym (ap (is_stale now kind problem pid page) there) ∙ here))
+      ∙ from-here
+
+  -- and else the first is behind it
+  pub seen-next : is_stale now kind problem pid page one ≡ false → find (is_stale now kind problem pid page) (drop (place + 1) seen) ≡ find (is_stale now kind problem pid page) seen
+  seen-next here =
+      let next : place + 1 ≡ suc place = omega arith in
+      ap (λ (n : ℕ). find (is_stale now kind problem pid page) (drop n seen)) next
+      ∙ ap (λ (xs : List KeptEntry). find (is_stale now kind problem pid page) (drop (suc place) xs)) (sym same)
+      ∙ next-at place items now kind problem pid page one within (sym (ap (is_stale now kind problem pid page) there) ∙ here)
+      ∙ from-here
 
 -- none before a page is stale
 pub skipped : (place : ℕ) (entries : List KeptEntry) (now : Result Translated StorageFault) (kind : Kind) (problem : Bool) (pid page : ℕ) → place ≤ length entries → ((k : ℕ) (d : KeptEntry) → 0 ≤ k → k < place → is_before pid page (get_or entries k d) ≡ true) → find (is_stale now kind problem pid page) (drop place entries) ≡ find (is_stale now kind problem pid page) entries

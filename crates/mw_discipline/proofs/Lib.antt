@@ -1,3 +1,3 @@
 -- What holds of the blocks: how they are seen, which are listed, and how those that are listed are settled.
 mod BlockLaws
-pub mod EntryLemmas
+mod EntryLemmas

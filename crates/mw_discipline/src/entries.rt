@@ -128,9 +128,12 @@ impl Entries {
     pub fn leave(&mut self, scope: Scope)
         ensures { self.new.items ≡ map (left_by scope) self.old.items }
     {
-        if scope != Scope::Nothing {
-            mark(&mut self.items, scope);
-            self.leaving = true;
+        match scope {
+            Scope::Nothing => {}
+            _ => {
+                mark(&mut self.items, scope);
+                self.leaving = true;
+            }
         }
     }
 

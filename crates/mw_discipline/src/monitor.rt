@@ -8,7 +8,8 @@ use crate::entries::Entries;
 use crate::order::{PAGE_SIZE, page_why};
 use mw_bus::RAM_SIZE;
 use mw_isa::{
-    Access, BlockStatus, Deed, Kind, PR, Packet, Regs, StorageFault, Touch, Translated, Why, has_bit,
+    Access, BlockStatus, Deed, Kind, PR, Packet, Regs, StorageFault, Touch, Translated, Why,
+    has_bit,
 };
 use mw_radix::{Tables, is_translated, quadrant_of, translate};
 use std::alloc::{AllocError as NoMemory, Global};
@@ -59,12 +60,7 @@ fn fetch_touch(cia: u64) -> Touch
 
 /// Keeps the translation of an access, if there is one, and tells how many were added.
 #[tactic(auto, unfolding(mw_isa::specs::Translate::translate_of))]
-fn put_touch<T: Tables>(
-    entries: &mut Entries,
-    touch: Touch,
-    tables: &mut T,
-    regs: &Regs,
-) -> u64
+fn put_touch<T: Tables>(entries: &mut Entries, touch: Touch, tables: &mut T, regs: &Regs) -> u64
     requires { 0 < entries.old.room }
     ensures items { entries.new.items ≡ with_some (entry_in (translate_of (T.ram tables.old) regs.now touch.kind touch.ea)) entries.old.items }
     ensures room { entries.old.room ≤ entries.new.room + 1 }
@@ -107,12 +103,7 @@ fn put_touches<T: Tables>(
 }
 
 /// Keeps the translations that an instruction used, and tells how many were added.
-fn put_used<T: Tables>(
-    entries: &mut Entries,
-    packet: &Packet,
-    tables: &mut T,
-    regs: &Regs,
-) -> u64
+fn put_used<T: Tables>(entries: &mut Entries, packet: &Packet, tables: &mut T, regs: &Regs) -> u64
     requires { 3 ≤ entries.old.room }
     ensures items { entries.new.items ≡ with_used (T.ram tables.old) regs.now (used_by packet.now) entries.old.items }
     ensures few { result ≤ 3 }
@@ -179,7 +170,10 @@ impl Monitor {
             return None;
         };
         let problem = has_bit(regs.msr, PR);
-        match self.entries.stale(now, touch.kind, problem, pid, touch.ea / PAGE_SIZE) {
+        match self
+            .entries
+            .stale(now, touch.kind, problem, pid, touch.ea / PAGE_SIZE)
+        {
             None => None,
             Some(entry) => Some(page_why(touch.kind, now, &entry)),
         }
@@ -217,12 +211,7 @@ impl Monitor {
     }
 
     /// Looks at one access: whether those behind it are to be looked at, or that it breaks the discipline.
-    fn examine<T: Tables>(
-        &self,
-        touch: Touch,
-        tables: &mut T,
-        regs: &Regs,
-    ) -> Result<bool, Access>
+    fn examine<T: Tables>(&self, touch: Touch, tables: &mut T, regs: &Regs) -> Result<bool, Access>
         ensures ok { IfOk result (λ on. (why_by self.now.kept regs.now touch (translate_of (T.ram tables.old) regs.now touch.kind touch.ea) ≡ None) × (on ≡ is_ok (translate_of (T.ram tables.old) regs.now touch.kind touch.ea))) }
         ensures err { IfErr result (λ access. option_map (access_by touch) (why_by self.now.kept regs.now touch (translate_of (T.ram tables.old) regs.now touch.kind touch.ea)) ≡ Some access) }
         ensures stays { T.ram tables.new ≡ T.ram tables.old }
@@ -252,8 +241,10 @@ impl Monitor {
         ensures counted { T.reads tables.old ≤ T.reads tables.new }
     {
         for touch in touches {
-            if !self.examine(*touch, tables, regs)? {
-                return Ok(());
+            match self.examine(*touch, tables, regs) {
+                Err(access) => return Err(access),
+                Ok(false) => return Ok(()),
+                Ok(true) => {}
             }
         }
         Ok(())

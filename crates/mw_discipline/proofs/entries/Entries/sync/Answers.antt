@@ -13,4 +13,4 @@ returns-then-self c =
 
 pub returns-else-self : goal.returns-else-self
 returns-else-self c =
-    rw (← c.self.view_is) (none-gone c.self.inside.items.items (c.self.invariant.still c.if-self.is))
+    rw (← c.self.view_is) (none-gone c.self.inside.items.items (c.self.invariant.still c.if-self.false))
