@@ -40,6 +40,8 @@ mod system;
 #[cfg(test)]
 mod translated;
 #[cfg(test)]
+mod translations;
+#[cfg(test)]
 mod traps;
 #[cfg(test)]
 mod tree;
