@@ -18,8 +18,8 @@ mod sprs;
 #[cfg(test)]
 mod storage;
 #[cfg(test)]
-mod translations;
-#[cfg(test)]
 mod stretches;
+#[cfg(test)]
+mod translations;
 #[cfg(test)]
 mod walks;

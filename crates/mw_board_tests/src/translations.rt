@@ -20,7 +20,9 @@ const TREE: [(u32, u64); 5] = [
 /// Leaves by what they permit, at a page whose number is added: loads and stores, marked as changed and not; the same of
 /// privileged states alone.
 const CHANGED: u64 = 0xc000_0000_0000_0186;
+
 const UNCHANGED: u64 = 0xc000_0000_0000_0106;
+
 const PRIVILEGED: u64 = 0xc000_0000_0000_018e;
 /// An address of quadrant 3.
 const HIGH: u64 = 0xc000_0000_0000_0000;
@@ -87,12 +89,7 @@ fn checked(monitor: &Monitor, ram: &Ram, problem: bool, touches: &[Touch]) -> Re
 }
 
 /// Records an instruction with such accesses and this deed, if none offends.
-fn record(
-    monitor: &mut Monitor,
-    ram: &Ram,
-    touches: &[Touch],
-    deed: Deed,
-) -> Result<(), NoMemory>
+fn record(monitor: &mut Monitor, ram: &Ram, touches: &[Touch], deed: Deed) -> Result<(), NoMemory>
     requires within { IsInRam deed }
     requires room { monitor.old.added ≤ 1000 }
     ensures { OnOk result (monitor.new.added ≤ monitor.old.added + 6) }
@@ -139,12 +136,21 @@ fn a_page_that_moved_offends(rt: HostRuntime) -> Result<(), Fail> {
     record(&mut monitor, &ram, &[load], Deed::Plain)?;
     assert_eq!(rt; checked(&monitor, &ram, false, &[load]), Ok(()));
     set_leaf(&mut ram, 5, CHANGED + 0x7000);
-    assert_eq!(rt; checked(&monitor, &ram, false, &[load]), moved(Kind::Load, 0x5008, 0x5000, 0x7000));
+    assert_eq!(rt;
+        checked(&monitor, &ram, false, &[load]),
+        moved(Kind::Load, 0x5008, 0x5000, 0x7000)
+    );
     set_leaf(&mut ram, 5, 0);
-    assert_eq!(rt; checked(&monitor, &ram, false, &[load]), faulting(Kind::Load, 0x5008, 0x5000, Vector::DataStorage));
+    assert_eq!(rt;
+        checked(&monitor, &ram, false, &[load]),
+        faulting(Kind::Load, 0x5008, 0x5000, Vector::DataStorage)
+    );
     // another page of the tree was never used
     set_leaf(&mut ram, 6, CHANGED + 0x7000);
-    assert_eq!(rt; checked(&monitor, &ram, false, &[access(Kind::Load, 0x6000)]), Ok(()));
+    assert_eq!(rt;
+        checked(&monitor, &ram, false, &[access(Kind::Load, 0x6000)]),
+        Ok(())
+    );
     Ok(())
 }
 
@@ -161,10 +167,19 @@ fn an_entry_permits_by_its_rights(rt: HostRuntime) -> Result<(), Fail> {
     set_leaf(&mut ram, 6, CHANGED + 0x7000);
     // in problem state a privileged entry permits nothing
     assert_eq!(rt; checked(&monitor, &ram, true, &[load]), Ok(()));
-    assert_eq!(rt; checked(&monitor, &ram, false, &[load]), moved(Kind::Load, 0x5000, 0x5000, 0x7000));
+    assert_eq!(rt;
+        checked(&monitor, &ram, false, &[load]),
+        moved(Kind::Load, 0x5000, 0x5000, 0x7000)
+    );
     // and one that isn't marked as changed no store
-    assert_eq!(rt; checked(&monitor, &ram, false, &[access(Kind::Store, 0x6000)]), Ok(()));
-    assert_eq!(rt; checked(&monitor, &ram, false, &[other]), moved(Kind::Load, 0x6000, 0x6000, 0x7000));
+    assert_eq!(rt;
+        checked(&monitor, &ram, false, &[access(Kind::Store, 0x6000)]),
+        Ok(())
+    );
+    assert_eq!(rt;
+        checked(&monitor, &ram, false, &[other]),
+        moved(Kind::Load, 0x6000, 0x6000, 0x7000)
+    );
     // the same page with other rights is no offence
     set_leaf(&mut ram, 6, CHANGED + 0x6000);
     assert_eq!(rt; checked(&monitor, &ram, false, &[other]), Ok(()));
@@ -179,13 +194,19 @@ fn accesses_are_examined_in_order(rt: HostRuntime) -> Result<(), Fail> {
     let second = access(Kind::Store, 0x6000);
     record(&mut monitor, &ram, &[first, second], Deed::Plain)?;
     set_leaf(&mut ram, 6, CHANGED + 0x8000);
-    assert_eq!(rt; checked(&monitor, &ram, false, &[first, second]), moved(Kind::Store, 0x6000, 0x6000, 0x8000));
+    assert_eq!(rt;
+        checked(&monitor, &ram, false, &[first, second]),
+        moved(Kind::Store, 0x6000, 0x6000, 0x8000)
+    );
     // a first that has a fault, of a page that isn't kept, is the last that is looked at
     let fault = access(Kind::Store, 0x4ff8);
     assert_eq!(rt; checked(&monitor, &ram, false, &[fault, second]), Ok(()));
     // one of a page that is kept is looked at itself
     set_leaf(&mut ram, 5, 0);
-    assert_eq!(rt; checked(&monitor, &ram, false, &[first, second]), faulting(Kind::Store, 0x5ffc, 0x5000, Vector::DataStorage));
+    assert_eq!(rt;
+        checked(&monitor, &ram, false, &[first, second]),
+        faulting(Kind::Store, 0x5ffc, 0x5000, Vector::DataStorage)
+    );
     Ok(())
 }
 
@@ -201,10 +222,29 @@ fn quadrants_have_their_processes(rt: HostRuntime) -> Result<(), Fail> {
     monitor.interrupted();
     set_leaf(&mut ram, 5, CHANGED + 0x7000);
     assert_eq!(rt; checked(&monitor, &ram, false, &[low]), Ok(()));
-    assert_eq!(rt; checked(&monitor, &ram, false, &[high]), moved(Kind::Load, HIGH + 0x5000, 0x5000, 0x7000));
+    assert_eq!(rt;
+        checked(&monitor, &ram, false, &[high]),
+        moved(Kind::Load, HIGH + 0x5000, 0x5000, 0x7000)
+    );
     // quadrants 1 and 2 belong to none, and are a fault
-    assert_eq!(rt; checked(&monitor, &ram, false, &[access(Kind::Load, 0x4000_0000_0000_5000), high]), Ok(()));
-    assert_eq!(rt; checked(&monitor, &ram, false, &[access(Kind::Load, 0x8000_0000_0000_5000), high]), Ok(()));
+    assert_eq!(rt;
+        checked(
+            &monitor,
+            &ram,
+            false,
+            &[access(Kind::Load, 0x4000_0000_0000_5000), high]
+        ),
+        Ok(())
+    );
+    assert_eq!(rt;
+        checked(
+            &monitor,
+            &ram,
+            false,
+            &[access(Kind::Load, 0x8000_0000_0000_5000), high]
+        ),
+        Ok(())
+    );
     Ok(())
 }
 
@@ -222,7 +262,14 @@ fn outlasts(alloc: Global, scope: Scope) -> Result<bool, NoMemory> {
 
 /// Whether it is behind an invalidation of pages of process 1.
 fn outlasts_region(alloc: Global, page: u64, pages: u64) -> Result<bool, NoMemory> {
-    outlasts(alloc, Scope::Region { pid: 1, page, pages })
+    outlasts(
+        alloc,
+        Scope::Region {
+            pid: 1,
+            page,
+            pages,
+        },
+    )
 }
 
 #[test]
@@ -238,7 +285,17 @@ fn scopes_reach_their_pages(rt: HostRuntime) -> Result<(), Fail> {
     assert_eq!(rt; outlasts_region(alloc, 1, 4)?, true);
     assert_eq!(rt; outlasts_region(alloc, 6, 16)?, true);
     assert_eq!(rt; outlasts_region(alloc, 5, 1)?, false);
-    assert_eq!(rt; outlasts(alloc, Scope::Region { pid: 2, page: 5, pages: 1 })?, true);
+    assert_eq!(rt;
+        outlasts(
+            alloc,
+            Scope::Region {
+                pid: 2,
+                page: 5,
+                pages: 1
+            }
+        )?,
+        true
+    );
     Ok(())
 }
 
@@ -252,7 +309,10 @@ fn what_is_used_again_stays(rt: HostRuntime) -> Result<(), Fail> {
     record(&mut monitor, &ram, &[load], Deed::Plain)?;
     monitor.interrupted();
     set_leaf(&mut ram, 5, CHANGED + 0x7000);
-    assert_eq!(rt; checked(&monitor, &ram, false, &[load]), moved(Kind::Load, 0x5000, 0x5000, 0x7000));
+    assert_eq!(rt;
+        checked(&monitor, &ram, false, &[load]),
+        moved(Kind::Load, 0x5000, 0x5000, 0x7000)
+    );
     // another table leaves none
     record(&mut monitor, &ram, &[], Deed::NewTable)?;
     assert_eq!(rt; checked(&monitor, &ram, false, &[load]), Ok(()));

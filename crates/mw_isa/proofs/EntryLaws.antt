@@ -1,7 +1,7 @@
 -- What holds of the translations that the update discipline keeps: their order, which of them are there and which stay
 -- behind each step, and what an access that breaks no discipline tells of them.
 use Rattle.std.specs.Prelude.{⊤}
-use Rattle.std.proofs.Common.{◌≡◌, ℕ, ◌+◌, ◌*◌, ◌/◌, ◌<◌, ◌≤◌, ◌==◌, Bool, true, false, not, ◌||◌, ◌&&◌, cond, List, [], ◌∷◌, ◌++◌, map, get_or, Option, Some, None, IfSome, Result, Ok, Err, is_ok, nat_lt, option_map, refl, sym, ap, ◌∙◌, subst, arith}
+use Rattle.std.proofs.Common.{◌≡◌, ℕ, ◌+◌, ◌*◌, ◌/◌, ◌<◌, ◌≤◌, ◌==◌, Bool, true, false, not, ◌||◌, ◌&&◌, cond, List, [], ◌∷◌, ◌++◌, map, get_or, Option, Some, None, Result, Ok, Err, is_ok, nat_lt, option_map, refl, sym, ap, ◌∙◌, subst, arith}
 use Rattle.std.specs.Int.{from_bool}
 use Rattle.std.specs.Cmp.{IsTotalOrder}
 use Rattle.std.specs.Cmp.Lexicographic.{slice_cmp}
@@ -182,10 +182,6 @@ same-on other first entry e is =
 both-on : (is leaving : Bool) (later : Bool) → (is ≡ true → later ≡ true) → (is && not leaving) ≡ true → (later && not false) ≡ true
 both-on true leaving later goes e = and_from later true (goes refl) refl
 both-on false leaving later goes e = cc
-
--- what is kept of an access isn't leaving
-IsNew : Option KeptEntry → Type 0
-IsNew entry = IfSome entry (λ it. it.leaving ≡ false)
 
 -- a translation that is kept is kept with one more
 pub known-kept : (other entry : KeptEntry) (entries : List KeptEntry) → is_known other entries ≡ true → is_known other (with_entry entry entries) ≡ true

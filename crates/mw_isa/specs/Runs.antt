@@ -7,8 +7,7 @@
 -- until there.
 --
 -- Below is what of it is built: image, script, number of cycles, events, registers, memory, UART bytes, interrupts, the
--- 8,192 cycles, and of the update discipline what concerns changed code. Waits and the discipline of changed translations
--- aren't built yet.
+-- 8,192 cycles, and the update discipline. Waits aren't built yet.
 use Rattle.std.specs.Prelude.{ℕ, ◌≡◌, ◌≤◌, ◌<◌, List, length, Some, All}
 use Rattle.std.specs.List.Sorted.{IsStrictlyIncreasing}
 use Rattle.mw_bus.specs.Memory.{ram_size}
