@@ -25,6 +25,7 @@ standard error for an input that can't be used. Each word has its own --help."""
 NAMES_EXAMPLE = """\
 Each line of an event gets its name and offset behind it, and its file and line
 where the ELF file has lines and addr2line is installed; - where it has no name.
+The line of an offence gets the same, for the address of its access.
 
 Example:
   bin/mw run firmware.img --cycles 1000 | tools/mwtrace names - --elf firmware.elf"""
@@ -46,6 +47,8 @@ A cell is darker (on a dark page brighter) the more instructions retired in it.
 Example:
   tools/mwtrace picture run.txt --elf firmware.elf -o run.svg"""
 SUMMARY_EXAMPLE = """\
+Where the run stopped at an offence, two lines more tell its access and why.
+
 Example:
   bin/mw run examples/sum.img --cycles 6 | tools/mwtrace summary -"""
 

@@ -1,10 +1,11 @@
-"""A run in a dozen lines."""
+"""A run in a dozen lines, and two more where it stopped at an offence."""
 
 import sys
 from dataclasses import dataclass, field
 from operator import sub
 
-from mwtracelib.trace import Batch, Ending, Kind, Trace
+from mwtracelib.returns import VECTOR_NAMES
+from mwtracelib.trace import Batch, Ending, Kind, Offence, Trace
 
 # The length of a prefix and its suffix, as they stand in a line.
 PREFIXED_TAIL = 17
@@ -53,8 +54,29 @@ def stretch_text(summary: Summary) -> str:
     return "%d cycles, from cycle %d to %d" % (summary.stretch, summary.stretch_at, last)
 
 
+def reason_of(offence: Offence) -> str:
+    """Why an access breaks the update discipline."""
+    what, place, *rest = offence.why
+    if what == "block":
+        missing = "no icbi of it came behind" if rest == ["changed"] else "nothing synchronized behind its icbi"
+        return "block %s was stored to, and %s" % (place, missing)
+    now = "it has a fault, " + " ".join([rest[-1], VECTOR_NAMES.get(rest[-1], "")]).rstrip()
+    if rest[0] != "fault":
+        now = "it is at %s" % rest[0]
+    return "its page is kept at %s, and by the tables %s" % (place, now)
+
+
+def offence_lines(ending: Ending) -> list:
+    """Where a run stopped at an offence, and why; none where it reached its number of cycles."""
+    offence = ending.offence
+    if offence is None:
+        return []
+    place = "the %s at %s, in cycle %d" % (offence.kind, offence.address.decode(), ending.cycle)
+    return [("  stopped before", place), ("  because", reason_of(offence))]
+
+
 def lines_of(summary: Summary, ending: Ending) -> list:
-    """The dozen lines, each a name and what is told."""
+    """The lines, each a name and what is told."""
     events = sum(summary.counts.values())
     rate = "%.4f" % (events / ending.cycle) if ending.cycle else "none"
     addresses = "none"
@@ -73,6 +95,7 @@ def lines_of(summary: Summary, ending: Ending) -> list:
         ("bytes the UART sent", len(ending.uart)),
         ("bytes of the dump", sum(len(content) for _, content in ending.dump)),
         ("the end", ending.lines[0].decode()[len("end "):]),
+        *offence_lines(ending),
     ]
 
 

@@ -73,12 +73,23 @@ class Batch:
 
 
 @dataclass(frozen=True)
+class Offence:
+    """The access at which a run stopped, since it breaks the update discipline."""
+    # fetch, load or store
+    kind: str
+    address: bytes
+    # the words behind the address: of a block its address and status, of a page where it is kept and what it comes to
+    why: list
+
+
+@dataclass(frozen=True)
 class Ending:
     """What stands behind the events."""
     lines: list
     # the number of cycles that were asked for, or the cycle of the offence
     cycle: int
-    is_offence: bool
+    # None where the run reached its number of cycles
+    offence: Optional[Offence]
     # each register's digits, by its name, in their order
     registers: dict
     uart: bytes
@@ -165,6 +176,13 @@ def is_end(line: bytes) -> bool:
     if fields[1] == b"ran":
         return len(fields) == 3
     return fields[1] == b"offence" and is_offence_tail(fields[3:])
+
+
+def offence_of(fields: list) -> Optional[Offence]:
+    """The offence that the fields of an end line tell, if they tell one."""
+    if fields[1] != b"offence":
+        return None
+    return Offence(fields[3].decode(), fields[4], [field.decode() for field in fields[5:]])
 
 
 def bytes_of(text: bytes) -> Optional[bytes]:
@@ -262,8 +280,8 @@ class Trace:
             raise self.bad(self._number + 1, "not a line of a printed run")
         fields = lines[0].split(b" ")
         last = int(fields[2])
-        # cycle N of `end ran N` isn't run; an offence has the cycle in which its event would have come
-        if last < self._cycle or (last == self._cycle and fields[1] == b"ran"):
+        # cycle N of `end ran N` isn't run, and that of an offence has no event
+        if last <= self._cycle:
             raise self.bad(self._number + 1, "an end at cycle %d behind an event of cycle %d" % (last, self._cycle))
         self._keep(lines)
 
@@ -291,7 +309,7 @@ class Trace:
             raise self.bad(first + uart_at, "not the bytes of the UART")
         end = lines[0].split(b" ")
         dump = self._read_dump(lines[uart_at + 1:], first + uart_at + 1)
-        return Ending(lines, int(end[2]), end[1] == b"offence", registers, sent, dump)
+        return Ending(lines, int(end[2]), offence_of(end), registers, sent, dump)
 
     def _register(self, lines: list, first: int, place: int, name: str) -> bytes:
         """The digits of one register."""

@@ -64,6 +64,26 @@ the ends differ
 """
 
 
+# Two runs, of which one stops where the other goes on.
+STOPPED = """\
+A a.txt
+B b.txt
+
+first difference: event 19
+  R 13 0000000000000034 38600001                  R 13 0000000000000034 38600001
+  R 14 0000000000000038 38600001                  R 14 0000000000000038 38600001
+  R 15 000000000000003c 38600001                  R 15 000000000000003c 38600001
+  R 16 0000000000000040 38600001                  R 16 0000000000000040 38600001
+  R 17 0000000000000044 38600001                  R 17 0000000000000044 38600001
+! R 18 0000000000000048 38600001                  end offence 18 fetch 0000000000000048 block 0000000000000040 changed
+! R 19 000000000000004c 38600001
+
+the ends differ
+! end ran 20                                      end offence 18 fetch 0000000000000048 block 0000000000000040 changed
+"""
+OFFENCE = "end offence %d fetch 0000000000000050 block 0000000000000040 %s"
+
+
 class DiffTest(ToolTest):
     """The word diff."""
 
@@ -112,6 +132,20 @@ class DiffTest(ToolTest):
     def test_ends(self):
         end = "end offence 20 fetch 0000000000000050 block 0000000000000040 changed"
         self.check(self.pair(made.trace(EVENTS, "end ran 20"), made.trace(EVENTS, end)), ENDS, 1)
+
+    def test_run_that_stops(self):
+        end = "end offence 18 fetch 0000000000000048 block 0000000000000040 changed"
+        self.check(self.pair(made.trace(EVENTS, "end ran 20"), made.trace(EVENTS[:18], end)), STOPPED, 1)
+
+    def test_two_runs_that_stop(self):
+        words = self.pair(made.trace(EVENTS, OFFENCE % (20, "changed")), made.trace(LATER, OFFENCE % (40, "changed")))
+        self.check([*words, "--ignore-cycles"], "")
+        self.assertEqual(self.run_tool(*words)[0], 1)
+        words = self.pair(made.trace(EVENTS, OFFENCE % (20, "changed")),
+                          made.trace(LATER, OFFENCE % (40, "invalidated")))
+        status, output, _ = self.run_tool(*words, "--ignore-cycles")
+        ends = ["the ends differ", "! %s  %s" % (OFFENCE % (20, "changed"), OFFENCE % (40, "invalidated"))]
+        self.assertEqual((status, output.splitlines()[3:]), (1, ends))
 
     def test_empty_runs(self):
         self.check(self.pair(made.trace([], "end ran 0"), made.trace([], "end ran 0")), "")

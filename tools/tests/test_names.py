@@ -17,6 +17,13 @@ SYMBOLS = [
 EVENTS = [
     "R 0 00000000000000fc 38600001", "R 1 0000000000000100 38600001", "R 2 0000000000000104 04100000 e4a00038",
     "R 3 0000000000000110 38600001", "T 4 000000000000010c 0c00", "I 5 c000000000000abc 0900"]
+# The ends of runs that stopped, and the names of their accesses.
+OFFENCES = [
+    ("end offence 6 fetch 0000000000000104 block 0000000000000100 changed", " main+0x4"),
+    ("end offence 6 fetch c000000000000104 block 0000000000000100 invalidated", " kernel+0x104"),
+    ("end offence 6 fetch 0000000000000110 block 0000000000000100 changed", " -"),
+    ("end offence 6 load 0000000000000108 page 0000000000001000 0000000000002000", " main+0x8"),
+    ("end offence 6 store 00000000000000f8 page 0000000000001000 fault 0300", " -")]
 NAMED = [" -", " main+0x0", " main+0x4", " -", " main+0xc", " kernel+0xabc"]
 # A stand-in of addr2line: the line of an address is its number divided by 4.
 ADDR2LINE = r'''#!/usr/bin/env python3
@@ -49,9 +56,9 @@ end ran 18
 """
 
 
-def behind(names):
-    """The made run with these texts behind its events."""
-    return made.trace([event + name for event, name in zip(EVENTS, names)], "end ran 6")
+def behind(names, end="end ran 6"):
+    """The made run with these texts behind its events, and this end line."""
+    return made.trace([event + name for event, name in zip(EVENTS, names)], end)
 
 
 def labels_of(source):
@@ -62,7 +69,9 @@ def labels_of(source):
         if ":" in statement:
             label, _, statement = statement.partition(":")
             labels.append((label.strip(), address))
-        if statement.strip():
+        if ".org" in statement:
+            address = int(statement.split()[1], 0)
+        elif statement.strip():
             address += len(statement.split(",")) if ".byte" in statement else 4
     return labels
 
@@ -78,7 +87,8 @@ class NamesTest(ToolTest):
         self.assertEqual(output, EUCLID + rest)
 
     def test_labels_of_the_examples_are_those_of_their_sources(self):
-        for source, names in (("text.s", "examples/text.nm"), ("euclid.s", "tools/tests/data/euclid.nm")):
+        for source, names in (("text.s", "examples/text.nm"), ("patch.s", "examples/patch.nm"),
+                              ("patch_unsynced.s", "examples/patch.nm"), ("euclid.s", "tools/tests/data/euclid.nm")):
             with open(os.path.join(TOP, "examples", source), encoding="ascii") as file:
                 labels = labels_of(file.read())
             with open(os.path.join(TOP, names), encoding="ascii") as file:
@@ -103,6 +113,20 @@ class NamesTest(ToolTest):
         lines = [" main.c:63", " main.c:64", " main.c:65", " main.c:68", " main.c:67", ""]
         status, output, errors = self.run_tool("names", trace, "--elf", elf, path=os.path.join(self.folder, "bin"))
         self.assertEqual((status, output, errors), (0, behind([a + b for a, b in zip(NAMED, lines)]), ""))
+
+    def test_offence(self):
+        elf = self.write("made.elf", made.elf(SYMBOLS))
+        for end, name in OFFENCES:
+            self.check(["names", self.trace(EVENTS, end), "--elf", elf], behind(NAMED, end + name))
+
+    def test_offence_with_the_line_of_the_source(self):
+        self.write_program("bin/powerpc64le-linux-gnu-addr2line", ADDR2LINE)
+        elf = self.write("made.elf", made.elf(SYMBOLS, extra_sections=[(".debug_line", b"\0")]))
+        lines = [" main.c:65", "", " main.c:68", " main.c:66", " main.c:62"]
+        for (end, name), line in zip(OFFENCES, lines):
+            status, output, errors = self.run_tool("names", self.trace([], end), "--elf", elf,
+                                                   path=os.path.join(self.folder, "bin"))
+            self.assertEqual((status, output, errors), (0, made.trace([], end + name + line), ""))
 
     def test_program_that_knows_no_lines(self):
         self.write_program("bin/powerpc64le-linux-gnu-addr2line", "#!/bin/sh\nexit 1\n")

@@ -81,6 +81,13 @@ class PictureTest(ToolTest):
                      "addresses by function, the low ones above; a cell is 4 bytes and 1 cycle"):
             self.assertIn(text, texts)
 
+    def test_run_that_stopped(self):
+        for end in ("end offence 600 fetch 0000000000003000 block 0000000000003000 invalidated",
+                    "end offence 600 load c000000000003000 page 0000000000003000 0000000000004000"):
+            texts = self.texts(self.picture(self.trace(list(small_events()), end, uart=SENT)))
+            self.assertIn("A run of 600 cycles", texts)
+            self.assertIn("made.txt: 256 events, " + end, texts)
+
     def test_empty_run(self):
         texts = self.texts(self.picture(self.trace([], "end ran 0")))
         self.assertEqual(texts, [

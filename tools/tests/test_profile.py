@@ -127,6 +127,14 @@ class ProfileTest(ToolTest):
     def test_empty_run(self):
         self.check(["profile", self.trace([], "end ran 7")], EMPTY)
 
+    def test_run_that_stopped(self):
+        # the cycle of the offence isn't among those that were run
+        for end in ("fetch 0000000000000040 block 0000000000000040 changed",
+                    "load 0000000000000040 page 0000000000001000 fault 0300"):
+            trace = self.trace(MADE_EVENTS, "end offence 40 " + end)
+            self.write_program("crates/mw/out/mw", MW)
+            self.check(["profile", trace], MADE)
+
     def test_few_lines(self):
         self.check(["profile", "data/euclid.txt", "--nm", "data/euclid.nm", "--top", "2"], TOP_TWO)
 

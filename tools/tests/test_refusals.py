@@ -27,11 +27,25 @@ BAD_LINES = [
     "end walked 3", "end offence 3 fetch 0000000000003000 block 0000000000003000 clean",
     "end offence 3 jump 0000000000003000 page",
     "end offence 3 load 0000000000003000 page 0000000000003000 fault 300",
-    "end offence 3 load 0000000000003000 page 0000000000003000 0000000000003000 0"]
+    "end offence 3 load 0000000000003000 page 0000000000003000 0000000000003000 0", "end offence", "end offence 3",
+    "end offence 3 fetch 0000000000003000 block 0000000000003000",
+    "end offence 3 fetch 0000000000003000 block 0000000000003000 changed 0",
+    "end offence 03 fetch 0000000000003000 block 0000000000003000 changed",
+    "end offence 3 fetch 000000000003000 block 0000000000003000 changed",
+    "end offence 3 fetch 0000000000003000 block 000000000003000 changed",
+    "end offence 3 fetch 0000000000003000  block 0000000000003000 changed",
+    "end offence 3 fetch 0000000000003000 page 0000000000003000 fault",
+    "end offence 3 fetch 0000000000003000 page 0000000000003000 fault 0400 0",
+    "end offence 3 fetch 0000000000003000 page 0000000000003000 changed"]
 # A change of the whole text, and what is told of it.
 CHANGES = [
     ("R 2", "R 0", "made.txt:3: cycle 0 behind cycle 1"),
     ("end ran 3", "end ran 2", "made.txt:4: an end at cycle 2 behind an event of cycle 2"),
+    # the cycle in which a run stopped has no event
+    ("end ran 3", "end offence 2 fetch 000000000000000c block 0000000000000000 changed",
+     "made.txt:4: an end at cycle 2 behind an event of cycle 2"),
+    ("end ran 3", "end offence 1 fetch 000000000000000c block 0000000000000000 changed",
+     "made.txt:4: an end at cycle 1 behind an event of cycle 2"),
     ("r7 ", "r8 ", "made.txt:12: not register r7 with its 16 digits"),
     ("cr 0", "cr ", "made.txt:37: not register cr with its 8 digits"),
     ("uart 41", "uart 4", "made.txt:59: not the bytes of the UART"),

@@ -40,6 +40,13 @@ printf "ran:"; printf " <%s>" "$@"; echo
 echo "in: $PWD"
 exit 6
 """
+# The program's statuses, from Done and Offence to NoMemory.
+STATUSES = range(8)
+# Ends with the status that its only word is.
+ENDING = r"""#!/usr/bin/env bash
+echo "end $1"
+exit "$1"
+"""
 
 
 class RunnerTest(unittest.TestCase):
@@ -85,9 +92,9 @@ class RunnerTest(unittest.TestCase):
         with open(path, encoding="utf-8") as file:
             return file.read()
 
-    def build(self):
+    def build(self, program=PROGRAM):
         """Puts a program in its place that is newer than every source, as a build by hand or by the gate leaves it."""
-        self.write("a checkout/crates/mw/out/mw", PROGRAM, 0o755)
+        self.write("a checkout/crates/mw/out/mw", program, 0o755)
         self.date(self.program, 100)
 
     def date(self, path, seconds):
@@ -224,6 +231,21 @@ class RunnerTest(unittest.TestCase):
         status, output, errors = self.mw("run", "x", "--cycles", "0")
         self.assertEqual((status, output), (126, ""), "that isn't passed over in silence")
         self.assertEqual(errors[-1], "bin/mw: rt ended well and made no program; the log is " + self.log, "the log is named")
+
+    def test_each_status(self):
+        self.build(ENDING)
+        for number in STATUSES:
+            self.assertEqual(self.mw(str(number)), (number, "end %d\n" % number, []),
+                             "the status is the program's, 1 of an offence too, and nothing is told of it")
+        self.date("crates/mw/src/main.rt", 200)
+        line = "bin/mw: the program is older than crates/mw/src/main.rt: bin/mw --rebuild makes it anew"
+        self.assertEqual(self.mw("1"), (1, "end 1\n", [line]), "also where the program is older than a source")
+
+    def test_offence_behind_a_build(self):
+        self.write("notes/program", ENDING, 0o755)
+        status, output, errors = self.mw("1")
+        self.assertEqual((status, output), (1, "end 1\n"), "a first run that ends at an offence isn't taken for a failed build")
+        self.assertEqual(errors, self.told(self.FIRST) + [self.BUILT], "nothing is told of it")
 
     def test_no_words(self):
         self.build()

@@ -62,6 +62,24 @@ addresses                0000000000000000 to ffffffffffffffc0
 bytes the UART sent      3
 bytes of the dump        0
 the end                  offence 40 load c000000000000000 page 0000000000001000 fault 0300
+  stopped before         the load at c000000000000000, in cycle 40
+  because                its page is kept at 0000000000001000, and by the tables it has a fault, 0300 data storage
+"""
+STOPPED = """\
+events                   12
+  retired                12
+  of them prefixed       0
+  traps                  0
+  interrupts             0
+cycles                   12
+events a cycle           1.0000
+longest stretch without  none
+addresses                0000000000000000 to 0000000000000044
+bytes the UART sent      0
+bytes of the dump        0
+the end                  offence 12 fetch 0000000000000040 block 0000000000000040 changed
+  stopped before         the fetch at 0000000000000040, in cycle 12
+  because                block 0000000000000040 was stored to, and no icbi of it came behind
 """
 EMPTY = """\
 events                   0
@@ -105,12 +123,24 @@ class SummaryTest(ToolTest):
         self.assertIn("longest stretch without  12 cycles, from cycle 0 to 11\n", output)
 
     def test_each_end(self):
-        ends = ["ran 9", "offence 9 fetch 0000000000000000 block 0000000000000000 changed",
-                "offence 9 store 0000000000000008 block 0000000000000000 invalidated",
-                "offence 9 load 0000000000000008 page 0000000000000000 0000000000001000"]
-        for end in ends:
-            _, output, _ = self.run_tool("summary", self.trace([], "end " + end))
-            self.assertEqual(output.splitlines()[-1], "the end                  " + end)
+        ends = [
+            ("ran 9", None, None),
+            ("offence 9 fetch 0000000000000000 block 0000000000000000 changed", "fetch at 0000000000000000",
+             "block 0000000000000000 was stored to, and no icbi of it came behind"),
+            ("offence 9 fetch c000000000003008 block 0000000000003000 invalidated", "fetch at c000000000003008",
+             "block 0000000000003000 was stored to, and nothing synchronized behind its icbi"),
+            ("offence 9 load 0000000000000008 page 0000000000000000 0000000000001000", "load at 0000000000000008",
+             "its page is kept at 0000000000000000, and by the tables it is at 0000000000001000"),
+            ("offence 9 store 0000000000000008 page 0000000000000000 fault 0380", "store at 0000000000000008",
+             "its page is kept at 0000000000000000, and by the tables it has a fault, 0380 data segment"),
+            ("offence 9 fetch 0000000000000008 page 0000000000000000 fault 0abc", "fetch at 0000000000000008",
+             "its page is kept at 0000000000000000, and by the tables it has a fault, 0abc")]
+        for end, access, why in ends:
+            expected = ["the end                  " + end]
+            if access is not None:
+                expected += ["  stopped before         the %s, in cycle 9" % access, "  because                " + why]
+            status, output, errors = self.run_tool("summary", self.trace([], "end " + end))
+            self.assertEqual((status, output.splitlines()[11:], errors), (0, expected, ""))
 
     def test_many_batches(self):
         events = ["R %d %016x 38600001" % (2 * number, 4 * number) for number in range(10_000)]
@@ -133,6 +163,15 @@ class SummaryTest(ToolTest):
             output = subprocess.run([os.path.join(self.folder, "tools", "mwtrace"), "summary", "-"], stdin=run.stdout,
                                     capture_output=True, check=False)
         self.assertEqual((output.returncode, output.stdout.decode(), output.stderr), (0, EUCLID, b""))
+
+    def test_pipe_of_a_run_that_stops(self):
+        program = os.path.join(TOP, "crates", "mw", "out", "mw")
+        if not os.access(program, os.X_OK):
+            self.skipTest("the program isn't built")
+        image = os.path.join(TOP, "examples", "patch_unsynced.img")
+        run = subprocess.run([program, "run", image, "--cycles", "16"], capture_output=True, check=False)
+        self.assertEqual((run.returncode, run.stderr), (1, b""))
+        self.assertEqual(self.run_tool("summary", "-", given=run.stdout), (0, STOPPED, ""))
 
 
 if __name__ == "__main__":
