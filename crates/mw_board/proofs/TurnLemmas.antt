@@ -30,16 +30,20 @@ allowed-at None kept state calm = calm
 allowed-at (Some raised) kept state calm = calm
 
 -- what is kept behind an instruction is told by it, whether it traps
-kept-at : (trap : Option Raised) (kept : Kept) (state : State) → kept_behind kept (event_at trap state) state ≡ after kept (next_packet state)
+kept-at : (trap : Option Raised) (kept : Kept) (state : State) → kept_behind kept (event_at trap state) state ≡ after kept state.ram state.regs (next_packet state)
 kept-at None kept state = refl
 kept-at (Some raised) kept state = refl
 
+-- what was recorded of what was told of the next instruction is what it leaves
+recorded : (kept left : Kept) (state : State) (ram : List ℕ) (packet : Packet) → packet ≡ next_packet state → ram ≡ state.ram → left ≡ after kept ram state.regs packet → left ≡ after kept state.ram state.regs (next_packet state)
+recorded kept left state ram packet told r e = e ∙ ap₂ (λ (bytes : List ℕ) (p : Packet). after kept bytes state.regs p) r told
+
 -- an instruction that keeps the discipline, carried out and recorded where no interrupt is chosen, is the cycle's
-pub turned-carried : (state behind : State) (ram : List ℕ) (event : Event) (kept left : Kept) (packet : Packet) → chosen state ≡ None → packet ≡ next_packet state → ram ≡ state.ram → offends kept ram state.regs packet ≡ None → left ≡ after kept packet → event ≡ event_at (step state).trap state → behind ≡ (step state).after → IsTurned event kept state left behind
-turned-carried state behind ram event kept left packet calm told r keeps l e a =
+pub turned-carried : (state behind : State) (ram bytes : List ℕ) (event : Event) (kept left : Kept) (packet : Packet) → chosen state ≡ None → packet ≡ next_packet state → ram ≡ state.ram → bytes ≡ state.ram → offends kept ram state.regs packet ≡ None → left ≡ after kept bytes state.regs packet → event ≡ event_at (step state).trap state → behind ≡ (step state).after → IsTurned event kept state left behind
+turned-carried state behind ram bytes event kept left packet calm told r b keeps l e a =
     let trap = (step state).trap in record {
       happens = e ∙ ap (λ (choice : Option Vector). next_event_by choice state) (sym calm);
       allowed = subst (λ (x : Event). IsAllowed x kept state) (sym e) (allowed-at trap kept state (offence-told kept state ram packet None told r keeps));
-      keeps = l ∙ ap (after kept) told ∙ sym (kept-at trap kept state) ∙ ap (λ (x : Event). kept_behind kept x state) (sym e);
+      keeps = recorded kept left state bytes packet told b l ∙ sym (kept-at trap kept state) ∙ ap (λ (x : Event). kept_behind kept x state) (sym e);
       leaves = a ∙ ap (λ (choice : Option Vector). passed_by choice state) (sym calm);
     }

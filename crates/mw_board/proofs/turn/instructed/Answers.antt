@@ -15,4 +15,4 @@ record-requires-clause-within c = told-in_ram (seen c.args.state.now) c.prepare.
 
 pub returns-clause-ok : goal.returns-clause-ok
 returns-clause-ok c =
-    turned-carried (seen c.args.state.now) (seen c.carry_out.new.state) c.new.result.ram.now c.carry_out.result c.args.monitor.now.kept c.record.new.self.kept c.prepare.new.prepared.packet c.requires.calm c.prepare.ensures.packet c.new.ensures.value c.in_default.ensures.ok c.in-Ok.ensures.kept c.carry_out.ensures.event c.carry_out.ensures.after
+    turned-carried (seen c.args.state.now) (seen c.carry_out.new.state) c.new.result.ram.now c.new-2.result.ram.now c.carry_out.result c.args.monitor.now.kept c.record.new.self.kept c.prepare.new.prepared.packet c.requires.calm c.prepare.ensures.packet c.new.ensures.value c.new-2.ensures.value c.in_default.ensures.ok c.in-Ok.ensures.kept c.carry_out.ensures.event c.carry_out.ensures.after
