@@ -97,3 +97,13 @@ fn bytes_grow(rt: HostRuntime) -> Result<(), Fail> {
     assert_eq!(rt; bytes.as_slice(), b"abc".as_slice());
     Ok(())
 }
+
+#[test]
+fn pieces_are_laid_over_zeros(rt: HostRuntime) -> Result<(), Fail> {
+    let mut bytes = Bytes::zeros(rt.alloc(), 5)?;
+    bytes.lay(1, b"abc");
+    bytes.lay(3, b"de");
+    bytes.lay(5, b"");
+    assert_eq!(rt; bytes.as_slice(), [0, b'a', b'b', b'd', b'e'].as_slice());
+    Ok(())
+}
