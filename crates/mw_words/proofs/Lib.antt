@@ -1,2 +1,5 @@
 pub mod NumberLemmas
 pub mod ItemLemmas
+pub mod RowLemmas
+pub mod WordLemmas
+pub mod WalkLemmas
