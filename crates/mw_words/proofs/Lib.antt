@@ -3,3 +3,4 @@ pub mod ItemLemmas
 pub mod RowLemmas
 pub mod WordLemmas
 pub mod WalkLemmas
+pub mod ReaderLaws

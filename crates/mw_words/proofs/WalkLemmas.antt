@@ -24,7 +24,7 @@ abbrev pub rules : Verb → List Rule
 rules verb = (shape verb).rules
 
 -- the rules are found by id, by position and by the option's name
-rule-by-id : (verb : Verb) (key : Key) → has verb key ≡ true → arg_by_id (rules verb) (id_of key) ≡ Some (built_rule key)
+pub rule-by-id : (verb : Verb) (key : Key) → has verb key ≡ true → arg_by_id (rules verb) (id_of key) ≡ Some (built_rule key)
 rule-by-id Run Name e = refl
 rule-by-id Run Cycles e = refl
 rule-by-id Run Script e = refl
@@ -42,13 +42,13 @@ rule-by-id Generate Cycles e = refl
 rule-by-id Generate Script e = cc
 rule-by-id Generate Dump e = cc
 
-rule-by-index : (verb : Verb) → arg_by_index (rules verb) 1 ≡ Some (built_rule Name)
+pub rule-by-index : (verb : Verb) → arg_by_index (rules verb) 1 ≡ Some (built_rule Name)
 rule-by-index Run = refl
 rule-by-index Assemble = refl
 rule-by-index Disassemble = refl
 rule-by-index Generate = refl
 
-rule-by-long : (verb : Verb) (key : Key) → (key ≡ Name → ⊥) → has verb key ≡ true → arg_by_long (rules verb) (id_of key) ≡ Some (built_rule key)
+pub rule-by-long : (verb : Verb) (key : Key) → (key ≡ Name → ⊥) → has verb key ≡ true → arg_by_long (rules verb) (id_of key) ≡ Some (built_rule key)
 rule-by-long verb Name named e = absurd (named refl)
 rule-by-long Run Cycles named e = refl
 rule-by-long Run Script named e = refl
@@ -64,7 +64,7 @@ rule-by-long Disassemble Script named e = cc
 rule-by-long Disassemble Dump named e = cc
 
 -- no option is taken twice
-once : (verb : Verb) → (shape verb).args_override_self ≡ false
+pub once : (verb : Verb) → (shape verb).args_override_self ≡ false
 once Run = refl
 once Assemble = refl
 once Disassemble = refl
@@ -131,7 +131,7 @@ name_held c word rows (given Cycles value) = refl
 name_held c word rows (given Script value) = refl
 name_held c word rows (given Dump value) = refl
 
-name-walk : (c : List Rule) (word : List ℕ) (rows : List Row) (left : Left) → NoFlag word → arg_by_index c 1 ≡ Some (built_rule Name)
+pub name-walk : (c : List Rule) (word : List ℕ) (rows : List Row) (left : Left) → NoFlag word → arg_by_index c 1 ≡ Some (built_rule Name)
     → walked c [] (stands rows left 1) word ≡ stands (settled_rows c (pend left) rows) (given Name word) 2
 unfolding walked
 name-walk c word rows left n index =
@@ -139,7 +139,7 @@ name-walk c word rows left n index =
     ∙ ap (λ r. to_positional c r word (stands rows left 1) (held rows left)) index
     ∙ name_held c word rows left
 
-name-turn : (s : Shape) (word : List ℕ) (rows : List Row) (left : Left) → NoFlag word → arg_by_index s.rules 1 ≡ Some (built_rule Name) → settle_passes s.rules s.args_override_self (held rows left) ≡ true
+pub name-turn : (s : Shape) (word : List ℕ) (rows : List Row) (left : Left) → NoFlag word → arg_by_index s.rules 1 ≡ Some (built_rule Name) → settle_passes s.rules s.args_override_self (held rows left) ≡ true
     → turn_passes s [] (stands rows left 1) word ≡ true
 name-turn s word rows left n index settles =
     both (other_passes s None word (held rows left)) (step_passes s 1 (subcommand_or_other s.rules None resting 1 word (held rows left)).0 (subcommand_or_other s.rules None resting 1 word (held rows left)).1)
@@ -155,7 +155,7 @@ value_held c Cycles word rows p = refl
 value_held c Script word rows p = refl
 value_held c Dump word rows p = refl
 
-value-walk : (c : List Rule) (key : Key) (word : List ℕ) (rows : List Row) (p : ℕ) → NoFlag word → arg_by_id c (id_of key) ≡ Some (built_rule key)
+pub value-walk : (c : List Rule) (key : Key) (word : List ℕ) (rows : List Row) (p : ℕ) → NoFlag word → arg_by_id c (id_of key) ≡ Some (built_rule key)
     → walked c [] (awaits rows key p) word ≡ stands rows (given key word) p
 unfolding walked
 value-walk c key word rows p n rule =
@@ -164,7 +164,7 @@ value-walk c key word rows p n rule =
     ∙ ap (λ r. after_step c word w (option_word r (id_of key) word w.held).0 (next (option_word r (id_of key) word w.held).1)) rule
     ∙ value_held c key word rows p
 
-value-turn : (s : Shape) (key : Key) (word : List ℕ) (rows : List Row) (p : ℕ) → NoFlag word → turn_passes s [] (awaits rows key p) word ≡ true
+pub value-turn : (s : Shape) (key : Key) (word : List ℕ) (rows : List Row) (p : ℕ) → NoFlag word → turn_passes s [] (awaits rows key p) word ≡ true
 value-turn s key word rows p n =
     let w : Walk = awaits rows key p in
     both (other_passes s None word w.held) (step_passes s p (subcommand_or_other s.rules None w.waiting p word w.held).0 (subcommand_or_other s.rules None w.waiting p word w.held).1)
@@ -191,7 +191,7 @@ flag-walk c key word value rows left p f rule =
     ap (λ m. after_step c word (stands rows left p) m.0 m.1) (met-flag c p word (id_of key) value (held rows left) f)
     ∙ ap (flag_walk c word value rows left p) rule
 
-opens-walk : (c : List Rule) (key : Key) (word : List ℕ) (rows : List Row) (left : Left) (p : ℕ) → IsFlag word (id_of key) None → arg_by_long c (id_of key) ≡ Some (built_rule key)
+pub opens-walk : (c : List Rule) (key : Key) (word : List ℕ) (rows : List Row) (left : Left) (p : ℕ) → IsFlag word (id_of key) None → arg_by_long c (id_of key) ≡ Some (built_rule key)
     → walked c [] (stands rows left p) word ≡ awaits (settled_rows c (pend left) rows) key p
 opens-walk c key word rows left p f rule = flag-walk c key word None rows left p f rule ∙ opens_held c key word rows left p
 
@@ -202,7 +202,7 @@ whole_held c Cycles word value rows left p = refl
 whole_held c Script word value rows left p = refl
 whole_held c Dump word value rows left p = refl
 
-whole-walk : (c : List Rule) (key : Key) (word value : List ℕ) (rows : List Row) (left : Left) (p : ℕ) → IsFlag word (id_of key) (Some value) → arg_by_long c (id_of key) ≡ Some (built_rule key)
+pub whole-walk : (c : List Rule) (key : Key) (word value : List ℕ) (rows : List Row) (left : Left) (p : ℕ) → IsFlag word (id_of key) (Some value) → arg_by_long c (id_of key) ≡ Some (built_rule key)
     → walked c [] (stands rows left p) word ≡ stands (used (built_rule key) (value ∷ []) (settled_rows c (pend left) rows)) nothing p
 whole-walk c key word value rows left p f rule = flag-walk c key word (Some value) rows left p f rule ∙ whole_held c key word value rows left p
 
@@ -229,27 +229,27 @@ any_step s Cycles word (Some v) rows left p = refl
 any_step s Script word (Some v) rows left p = refl
 any_step s Dump word (Some v) rows left p = refl
 
-flag-turn : (s : Shape) (key : Key) (word : List ℕ) (value : Option (List ℕ)) (rows : List Row) (left : Left) (p : ℕ) → IsFlag word (id_of key) value → arg_by_long s.rules (id_of key) ≡ Some (built_rule key)
+pub flag-turn : (s : Shape) (key : Key) (word : List ℕ) (value : Option (List ℕ)) (rows : List Row) (left : Left) (p : ℕ) → IsFlag word (id_of key) value → arg_by_long s.rules (id_of key) ≡ Some (built_rule key)
     → long_passes s.rules s.args_override_self (Some (built_rule key)) value (held rows left) ≡ true → turn_passes s [] (stands rows left p) word ≡ true
 flag-turn s key word value rows left p f rule passes = next_passes s key word value rows left p (ap (flag_step s word value rows left p) rule ∙ any_step s key word value rows left p) rule f passes
 
 -- an option without a value passes where what was given last does
-opens_pass : (c : List Rule) (again : Bool) (key : Key) (h : Held) → settle_passes c again h ≡ true → long_passes c again (Some (built_rule key)) None h ≡ true
-opens_pass c again Name h e = e
-opens_pass c again Cycles h e = e
-opens_pass c again Script h e = e
-opens_pass c again Dump h e = e
+pub opens-pass : (c : List Rule) (again : Bool) (key : Key) (h : Held) → settle_passes c again h ≡ true → long_passes c again (Some (built_rule key)) None h ≡ true
+opens-pass c again Name h e = e
+opens-pass c again Cycles h e = e
+opens-pass c again Script h e = e
+opens-pass c again Dump h e = e
 
 -- a use of what no row has passes
-use-passes : (key : Key) (value : List ℕ) (rows : List Row) → has_row (id_of key) rows ≡ false → use_passes false (built_rule key) (value ∷ []) rows ≡ true
+pub use-passes : (key : Key) (value : List ℕ) (rows : List Row) → has_row (id_of key) rows ≡ false → use_passes false (built_rule key) (value ∷ []) rows ≡ true
 use-passes Name value rows e = ap (λ b. (not b || false) && values_pass (built_rule Name) (value ∷ [])) e
 use-passes Cycles value rows e = ap (λ b. (not b || false) && values_pass (built_rule Cycles) (value ∷ [])) e
 use-passes Script value rows e = ap (λ b. (not b || false) && values_pass (built_rule Script) (value ∷ [])) e
 use-passes Dump value rows e = ap (λ b. (not b || false) && values_pass (built_rule Dump) (value ∷ [])) e
 
 -- an option with its value passes where what was given last does, and then the use
-whole_pass : (c : List Rule) (again : Bool) (key : Key) (value : List ℕ) (h : Held) → settle_passes c again h ≡ true → use_passes again (built_rule key) (value ∷ []) (settled c h).rows ≡ true → long_passes c again (Some (built_rule key)) (Some value) h ≡ true
-whole_pass c again Name value h e u = both _ _ e u
-whole_pass c again Cycles value h e u = both _ _ e u
-whole_pass c again Script value h e u = both _ _ e u
-whole_pass c again Dump value h e u = both _ _ e u
+pub whole-pass : (c : List Rule) (again : Bool) (key : Key) (value : List ℕ) (h : Held) → settle_passes c again h ≡ true → use_passes again (built_rule key) (value ∷ []) (settled c h).rows ≡ true → long_passes c again (Some (built_rule key)) (Some value) h ≡ true
+whole-pass c again Name value h e u = both _ _ e u
+whole-pass c again Cycles value h e u = both _ _ e u
+whole-pass c again Script value h e u = both _ _ e u
+whole-pass c again Dump value h e u = both _ _ e u
