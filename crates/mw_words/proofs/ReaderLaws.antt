@@ -1,17 +1,20 @@
 -- The reader takes the words of the grammar, and has what they say.
 use Rattle.std.proofs.Common.{◌≡◌, ℕ, Bool, true, false, cond, ◌&&◌, List, [], ◌∷◌, Option, Some, None, is_some, refl, sym, ap, ap₂, subst, ◌∙◌}
-use Rattle.std.specs.Prelude.{fold, option_map, option_and_then, find}
+use Rattle.std.specs.Prelude.{fold, option_map, option_and_then}
 use Rattle.std.specs.Option.{option_map_or}
 use Rattle.std.specs.List.{list_any, before_first, after_first}
-use Rattle.clap.specs.Walk.{Row, Rule, Walk, finished, first_of, has_row, nothing_held, settled_rows, used, used_by_id, walk_from, walked, with_default, default_rows, reading_by}
-use Rattle.clap.specs.Takes.{built_takes, settle_passes, takes, turn_passes, use_passes, walk_passes}
-use Rattle.clap.specs.Simple.{Shape, built, matches_of}
+use Rattle.clap.specs.Walk.{Row, Rule, Text, Walk, has_row, rows_of, nothing_held, settled_rows, used, used_by_id, walk_from, walked, with_default}
+use Rattle.clap.specs.Matches.{first_value}
+use Rattle.clap.specs.declared.parser.matches.Found.{Found}
+use Rattle.clap.proofs.WalkLemmas.{first_value-rows}
+use Rattle.clap.specs.Takes.{entered_passes, settle_passes, takes, turn_passes, use_passes, walk_passes}
+use Rattle.clap.specs.Simple.{App, built, is_simple, matches_of}
 use Rattle.mw_words.specs.declared.verb.Verb.{Verb}
 use Rattle.mw_words.specs.declared.verb.Verb.TheVariants.{Run, Assemble, Disassemble, Generate}
 use Rattle.mw_words.specs.declared.verb.Key.{Key}
 use Rattle.mw_words.specs.declared.verb.Key.TheVariants.{Name, Cycles, Script, Dump}
 use Rattle.mw_words.specs.Grammar.{Said, Reading, idle, is_equals, is_name, now_said, if_name, option_of, option_said, other_said, said_by, unless_awaited, unsaid, with_said, word_said, all_said}
-use Rattle.mw_words.specs.Reader.{id_of, reader_of, value_of}
+use Rattle.mw_words.specs.Reader.{id_of, reader_of, said_found, value_of}
 use Rattle.mw_words.proofs.RowLemmas.{Holds, built_rule, holds-more, no-row, put, said-new, used-new}
 use Rattle.mw_words.proofs.WordLemmas.{IsFlag, IsOption, NoFlag, flag-of, has, no-flag, option-of, value_in}
 use Rattle.mw_words.proofs.WalkLemmas.{Left, nothing, given, pend, held, stands, awaits, shape, rules, rule-by-id, rule-by-index, rule-by-long, once, name-walk, name-turn, value-walk, value-turn, opens-walk, opens-pass, whole-walk, whole-pass, flag-turn, use-passes}
@@ -200,3 +203,94 @@ words_end verb (word ∷ words) reading said w r e =
     let g = word_goes verb reading.awaited reading.said s.0 w word r s.1 in
     let h = words_end verb words s.0 said (walked (rules verb) [] w word) g.1 s.2 in
     (ap (λ b. b && walk_passes (shape verb) [] (walked (rules verb) [] w word) words) g.0 ∙ h.0, h.1)
+
+-- nothing was said before the first word
+start : (verb : Verb) → Rests verb unsaid (walk_from nothing_held)
+start verb = record {
+  rows = [];
+  left = nothing;
+  position = 1;
+  is = refl;
+  passes = refl;
+  holds = none_held;
+  first = λ e. refl;
+}
+  where
+    none_held : Holds [] unsaid
+    none_held Name = (refl, refl)
+    none_held Cycles = (refl, refl)
+    none_held Script = (refl, refl)
+    none_held Dump = (refl, refl)
+
+-- where the walk ends
+abbrev end : Verb → List (List ℕ) → Walk
+end verb words = fold (walked (rules verb) []) (walk_from nothing_held) words
+
+-- no rule has a default
+same_rows : (b : Bool) (rows : List Row) → cond b rows rows ≡ rows
+same_rows true rows = refl
+same_rows false rows = refl
+
+no_default : (key : Key) (rest : List Rule) (rows : List Row) → fold with_default rows (built_rule key ∷ rest) ≡ fold with_default rows rest
+no_default Name rest rows = ap (λ r. fold with_default r rest) (same_rows (has_row (id_of Name) rows) rows)
+no_default Cycles rest rows = ap (λ r. fold with_default r rest) (same_rows (has_row (id_of Cycles) rows) rows)
+no_default Script rest rows = ap (λ r. fold with_default r rest) (same_rows (has_row (id_of Script) rows) rows)
+no_default Dump rest rows = ap (λ r. fold with_default r rest) (same_rows (has_row (id_of Dump) rows) rows)
+
+no_defaults : (verb : Verb) (rows : List Row) → fold with_default rows (rules verb) ≡ rows
+no_defaults Run rows = no_default Name (built_rule Cycles ∷ built_rule Script ∷ built_rule Dump ∷ []) rows ∙ no_default Cycles (built_rule Script ∷ built_rule Dump ∷ []) rows ∙ no_default Script (built_rule Dump ∷ []) rows ∙ no_default Dump [] rows
+no_defaults Assemble rows = no_default Name [] rows
+no_defaults Disassemble rows = no_default Name [] rows
+no_defaults Generate rows = no_default Name (built_rule Cycles ∷ []) rows ∙ no_default Cycles [] rows
+
+-- the rows are those at the walk's end
+rows_at_end : (verb : Verb) (words : List (List ℕ)) → matches_of (reader_of verb) words ≡ fold with_default (settled_rows (rules verb) (end verb words).held.pending (end verb words).held.rows) (rules verb)
+rows_at_end Run words = refl
+rows_at_end Assemble words = refl
+rows_at_end Disassemble words = refl
+rows_at_end Generate words = refl
+
+-- both tests hold
+both : (a b : Bool) → a ≡ true → b ≡ true → (a && b) ≡ true
+both a b e f = ap₂ (λ x y. x && y) e f
+
+-- no command is entered, the walk passes, and what was given last does
+all_pass : (app : App) (stop : Option (Text × List Text)) (walks settles : Bool) → stop ≡ None → walks ≡ true → settles ≡ true → (entered_passes (built app) stop && (walks && (settles && true))) ≡ true
+all_pass app stop walks settles none w s = both (entered_passes (built app) stop) (walks && (settles && true)) (ap (entered_passes (built app)) none) (both walks (settles && true) w (both settles true s refl))
+
+-- the reader takes the words where its walk does
+taken_by : (verb : Verb) (words : List (List ℕ)) → (end verb words).stopped ≡ None → walk_passes (shape verb) [] (walk_from nothing_held) words ≡ true → settle_passes (rules verb) (shape verb).args_override_self (end verb words).held ≡ true → takes (reader_of verb) words ≡ true
+taken_by Run words stop walks settles = all_pass (reader_of Run) (end Run words).stopped _ _ stop walks settles
+taken_by Assemble words stop walks settles = all_pass (reader_of Assemble) (end Assemble words).stopped _ _ stop walks settles
+taken_by Disassemble words stop walks settles = all_pass (reader_of Disassemble) (end Disassemble words).stopped _ _ stop walks settles
+taken_by Generate words stop walks settles = all_pass (reader_of Generate) (end Generate words).stopped _ _ stop walks settles
+
+-- words that say this are taken by the command's reader, whose rows hold it
+pub reader-takes : (verb : Verb) (words : List (List ℕ)) (said : Said) → all_said verb (idle unsaid) words ≡ Some said → (takes (reader_of verb) words ≡ true) × Holds (matches_of (reader_of verb) words) said
+reader-takes verb words said e =
+    let g = words_end verb words (idle unsaid) said (walk_from nothing_held) (start verb) e in
+    let r = g.1 in
+    let settles = ap (λ (w : Walk). settle_passes (rules verb) (shape verb).args_override_self w.held) r.is ∙ r.passes in
+    let rows : matches_of (reader_of verb) words ≡ settled_rows (rules verb) (pend r.left) r.rows = rows_at_end verb words ∙ no_defaults verb _ ∙ ap (λ (w : Walk). settled_rows (rules verb) w.held.pending w.held.rows) r.is in
+    (taken_by verb words (ap (λ (w : Walk). w.stopped) r.is) g.0 settles, subst (λ l. Holds l said) (sym rows) r.holds)
+
+-- what the reader found is what was said
+found_by : (found : Found) (said : Said) → Holds (rows_of found) said → (key : Key) → first_value found (id_of key) ≡ value_of key said
+found_by found said h key = first_value-rows found (id_of key) ∙ (h key).1
+
+pub found-said : (found : Found) (said : Said) → Holds (rows_of found) said → said_found found ≡ said
+found-said found said h =
+    let f = found_by found said h in
+    rw (f Name, f Cycles, f Script, f Dump) refl
+
+-- the words say something
+pub said-of : (o : Option Said) → is_some o ≡ true → (said : Said) × (o ≡ Some said)
+said-of None e = cc
+said-of (Some said) e = (said, refl)
+
+-- a command's reader is one whose rows the library tells
+pub reader-simple : (verb : Verb) → is_simple (reader_of verb) ≡ true
+reader-simple Run = refl
+reader-simple Assemble = refl
+reader-simple Disassemble = refl
+reader-simple Generate = refl
