@@ -1,6 +1,7 @@
 -- The rows of the instructions that are drawn and of those around them: their names, and that they take their operands.
-use Rattle.std.proofs.Common.{◌≡◌, ℕ, ◌+◌, ◌-◌, ◌*◌, ◌^◌, ◌<◌, ◌≤◌, Bool, true, false, List, [], ◌∷◌, slice_get, Option, Some, None, IsSomeAnd, ℤ, pos, negsuc, neg_ℤ, ◌-ℤ◌, ◌≤ℤ◌, ◌<ℤ◌, refl, sym, ap, subst, ◌∙◌, arith}
+use Rattle.std.proofs.Common.{◌≡◌, FitsSigned, ℕ, ◌+◌, ◌-◌, ◌*◌, ◌^◌, ◌<◌, ◌≤◌, Bool, true, false, List, [], ◌∷◌, slice_get, Option, Some, None, IsSomeAnd, ℤ, pos, negsuc, neg_ℤ, ◌-ℤ◌, ◌≤ℤ◌, ◌<ℤ◌, refl, sym, ap, subst, ◌∙◌, arith}
 use Rattle.std.specs.Prelude.{codes}
+use Rattle.std.specs.Int.{w16}
 use Rattle.std.specs.Option.{option_map_or}
 use Rattle.std.proofs.lemmas.Int.{ints}
 use Rattle.std.proofs.lemmas.Bool.{false≢true}
@@ -35,17 +36,20 @@ forms-from row items None there = there
 forms-from row items (Some r) there = no_forms row items r
 
 -- a row with operands in range and without a form is an instruction
-pub row-IsInsn : (name : List ℕ) (row : ℕ) (layout : Layout) (items : List ℤ) → IsRow name row layout → HasOperands (fields_of layout) items → IsInsn (insn_at row items)
-row-IsInsn name row layout items is has = record {
-  forms = forms-from row items (slice_get table row) is.there;
-  operands = subst (λ o. IsSomeAnd o (λ l. HasOperands (fields_of l) items)) (sym is.laid) has;
-  legal = ap (λ (o : Option Rule). option_map_or (λ r. is_illegal r items) o false) is.rule;
-}
+pub row-IsInsn : (name : List ℕ) (row : ℕ) (layout : Layout) (items given : List ℤ) → IsRow name row layout → given ≡ items → HasOperands (fields_of layout) items → IsInsn (insn_at row given)
+row-IsInsn name row layout items given is same has =
+    let whole : IsInsn (insn_at row items) = record {
+      forms = forms-from row items (slice_get table row) is.there;
+      operands = subst (λ o. IsSomeAnd o (λ l. HasOperands (fields_of l) items)) (sym is.laid) has;
+      legal = ap (λ (o : Option Rule). option_map_or (λ r. is_illegal r items) o false) is.rule;
+    } in
+    subst (λ zs. IsInsn (insn_at row zs)) (sym same) whole
 
 -- the word of a row is that of its name
-pub row-word : (name : List ℕ) (row : ℕ) (layout : Layout) (items : List ℤ) (w : ℕ) → IsRow name row layout → w ≡ (encode_of (insn_at row items)).word → w ≡ word name items
+pub row-word : (name : List ℕ) (row : ℕ) (layout : Layout) (items given : List ℤ) (w : ℕ) → IsRow name row layout → given ≡ items → w ≡ (encode_of (insn_at row given)).word → w ≡ word name items
 unfolding word
-row-word name row layout items w is value = value ∙ ap (λ r. (encode_of (insn_at r items)).word) (sym is.named)
+row-word name row layout items given w is same value =
+    value ∙ ap (λ zs. (encode_of (insn_at row zs)).word) same ∙ ap (λ r. (encode_of (insn_at r items)).word) (sym is.named)
 
 -- a number below 32 is a register
 pub register-InRange : (n : ℕ) → n < 32 → InRange rt (pos n)
@@ -72,6 +76,14 @@ si-InRange (negsuc k) low high =
     let once : (65535 - k) * 1 ≡ 65535 - k = omega arith in
     let same : negsuc k ≡ pos ((65535 - k) * 1) -ℤ pos 65536 = omega (arith, ints) in
     (65535 - k, wide, same ∙ sym (signed_of-high 16 ((65535 - k) * 1) (omega arith)))
+
+-- a number that a signed integer of 16 bits holds is in the range of SI
+pub si16-InRange : (z : ℤ) → FitsSigned w16 z → InRange si z
+si16-InRange z fits = si-InRange z (omega (arith, ints, fits)) (omega (arith, ints, fits))
+
+-- a number of 15 bits is in the range of D
+pub d-InRange : (n : ℕ) → n < 32768 → InRange d (pos n)
+d-InRange n below = si-InRange (pos n) (omega (arith, ints)) (omega (arith, ints))
 
 -- a multiple of 8 below 32768 is in the range of DS
 pub ds-InRange : (n : ℕ) → n < 4096 → InRange ds (pos (8 * n))

@@ -75,8 +75,8 @@ abbrev pub turn_of : ℕ → ℕ
 turn_of seed = draw 1 8 seed
 
 -- an instruction of a target register and two others
-abbrev pub three : List ℕ → ℕ → ℕ → ℕ → ℕ
-three name t a b = word name (pos t ∷ pos a ∷ pos b ∷ [])
+abbrev pub of_three : List ℕ → ℕ → ℕ → ℕ → ℕ
+of_three name t a b = word name (pos t ∷ pos a ∷ pos b ∷ [])
 
 -- an access of a register behind register 3
 abbrev pub access : List ℕ → ℕ → ℕ → ℕ
@@ -85,10 +85,10 @@ access name t displacement = word name (pos t ∷ pos displacement ∷ pos 3 ∷
 -- the instruction that a number below 8 chooses, of three registers and a number of 16 bits
 unfoldable pub chosen : ℕ → ℕ → ℕ → ℕ → ℕ → ℕ
 chosen k t a b i =
-    if k == 0 then three (codes "add") t a b
-    else if k == 1 then three (codes "xor") t a b
-    else if k == 2 then three (codes "mulld") t a b
-    else if k == 3 then three (codes "divd") t a b
+    if k == 0 then of_three (codes "add") t a b
+    else if k == 1 then of_three (codes "xor") t a b
+    else if k == 2 then of_three (codes "mulld") t a b
+    else if k == 3 then of_three (codes "divd") t a b
     else if k == 4 then access (codes "ld") t (8 * (i % 4096))
     else if k == 5 then access (codes "std") t (8 * (i % 4096))
     else if k == 6 then word (codes "addi") (pos t ∷ pos a ∷ si_of i ∷ [])

@@ -1,7 +1,7 @@
 ghost use Rattle.std.specs.Prelude.{◌≡◌, ◌-◌, ◌*◌, ◌%◌, ◌^◌, ◌<◌, ◌≤◌, pos, neg_ℤ, ◌≤ℤ◌, ◌<ℤ◌, [], ◌∷◌, length, codes};
 ghost use Rattle.mw_decode.specs.Decode.{IsInsn};
 ghost use Rattle.mw_decode.specs.Encode.{encode_of};
-ghost use Rattle.mw_generator.specs.Generated.{access, chosen, three};
+ghost use Rattle.mw_generator.specs.Generated.{access, chosen, of_three};
 ghost use Rattle.mw_generator.specs.Instructions.{insn_at, li, lis, mtspr, si_of, word};
 
 use arrayvec::ArrayVec;
@@ -23,27 +23,86 @@ const RFID: u16 = 197;
 const MFMSR: u16 = 203;
 const MTSPR: u16 = 209;
 
-/// A list of these operands.
-fn listed(operands: &[i64]) -> ArrayVec<i64, 6>
-    requires { length operands.now ≤ 6 }
-    ensures { result.items ≡ operands.now }
+/// A register as an operand.
+fn register(x: u8) -> ArrayVec<i64, 6>
+    ensures { result.items ≡ pos x ∷ [] }
 {
-    let mut list = ArrayVec::new();
-    for operand in operands {
-        list.push(*operand);
-    }
-    list
+    let mut operands = ArrayVec::new();
+    operands.push(i64::from(x));
+    operands
+}
+
+/// A displacement as an operand.
+fn target(displacement: i32) -> ArrayVec<i64, 6>
+    ensures { result.items ≡ displacement ∷ [] }
+{
+    let mut operands = ArrayVec::new();
+    operands.push(i64::from(displacement));
+    operands
+}
+
+/// A special-purpose register and a register as operands.
+fn special(spr: u16, x: u8) -> ArrayVec<i64, 6>
+    ensures { result.items ≡ pos spr ∷ pos x ∷ [] }
+{
+    let mut operands = ArrayVec::new();
+    operands.push(i64::from(spr));
+    operands.push(i64::from(x));
+    operands
+}
+
+/// Three registers as operands.
+fn registers(x: u8, y: u8, z: u8) -> ArrayVec<i64, 6>
+    ensures { result.items ≡ pos x ∷ pos y ∷ pos z ∷ [] }
+{
+    let mut operands = ArrayVec::new();
+    operands.push(i64::from(x));
+    operands.push(i64::from(y));
+    operands.push(i64::from(z));
+    operands
+}
+
+/// Two registers and a signed number as operands.
+fn with_si(x: u8, y: u8, si: i16) -> ArrayVec<i64, 6>
+    ensures { result.items ≡ pos x ∷ pos y ∷ si ∷ [] }
+{
+    let mut operands = ArrayVec::new();
+    operands.push(i64::from(x));
+    operands.push(i64::from(y));
+    operands.push(i64::from(si));
+    operands
+}
+
+/// Two registers and an unsigned number as operands.
+fn with_ui(x: u8, y: u8, ui: u16) -> ArrayVec<i64, 6>
+    ensures { result.items ≡ pos x ∷ pos y ∷ pos ui ∷ [] }
+{
+    let mut operands = ArrayVec::new();
+    operands.push(i64::from(x));
+    operands.push(i64::from(y));
+    operands.push(i64::from(ui));
+    operands
+}
+
+/// A register, a displacement and the register that it counts from as operands.
+fn place(x: u8, displacement: u16, base: u8) -> ArrayVec<i64, 6>
+    ensures { result.items ≡ pos x ∷ pos displacement ∷ pos base ∷ [] }
+{
+    let mut operands = ArrayVec::new();
+    operands.push(i64::from(x));
+    operands.push(i64::from(displacement));
+    operands.push(i64::from(base));
+    operands
 }
 
 /// The word of the row at a place of the table, with these operands and no form.
-fn word_of(row: u16, operands: &[i64]) -> u32
-    requires few { length operands.now ≤ 6 }
-    requires insn { IsInsn (insn_at row operands.now) }
-    ensures { result ≡ (encode_of (insn_at row operands.now)).word }
+fn word_of(row: u16, operands: ArrayVec<i64, 6>) -> u32
+    requires { IsInsn (insn_at row operands.items) }
+    ensures { result ≡ (encode_of (insn_at row operands.items)).word }
 {
     let insn = Insn {
         row,
-        ops: listed(operands),
+        ops: operands,
         oe: false,
         rc: false,
         aa: false,
@@ -58,7 +117,7 @@ pub(crate) fn addi(rt: u8, ra: u8, si: i16) -> u32
     requires source { ra < 32 }
     ensures { result ≡ word (codes "addi") (pos rt ∷ pos ra ∷ si ∷ []) }
 {
-    word_of(ADDI, &[i64::from(rt), i64::from(ra), i64::from(si)])
+    word_of(ADDI, with_si(rt, ra, si))
 }
 
 /// `li`: RT becomes SI.
@@ -74,7 +133,7 @@ pub(crate) fn lis(rt: u8, si: i16) -> u32
     requires { rt < 32 }
     ensures { result ≡ lis rt si }
 {
-    word_of(ADDIS, &[i64::from(rt), 0, i64::from(si)])
+    word_of(ADDIS, with_si(rt, 0, si))
 }
 
 /// `ori`: RA becomes RS with the ones of UI.
@@ -83,7 +142,7 @@ pub(crate) fn ori(ra: u8, rs: u8, ui: u16) -> u32
     requires source { rs < 32 }
     ensures { result ≡ word (codes "ori") (pos ra ∷ pos rs ∷ pos ui ∷ []) }
 {
-    word_of(ORI, &[i64::from(ra), i64::from(rs), i64::from(ui)])
+    word_of(ORI, with_ui(ra, rs, ui))
 }
 
 /// `mtspr`: a special-purpose register becomes RS.
@@ -92,7 +151,7 @@ pub(crate) fn mtspr(spr: u16, rs: u8) -> u32
     requires source { rs < 32 }
     ensures { result ≡ mtspr spr rs }
 {
-    word_of(MTSPR, &[i64::from(spr), i64::from(rs)])
+    word_of(MTSPR, special(spr, rs))
 }
 
 /// `mfmsr`: RT becomes MSR.
@@ -100,53 +159,53 @@ pub(crate) fn mfmsr(rt: u8) -> u32
     requires { rt < 32 }
     ensures { result ≡ word (codes "mfmsr") (pos rt ∷ []) }
 {
-    word_of(MFMSR, &[i64::from(rt)])
+    word_of(MFMSR, register(rt))
 }
 
 /// `rfid`: return from an interrupt.
 pub(crate) fn rfid() -> u32
     ensures { result ≡ word (codes "rfid") [] }
 {
-    word_of(RFID, &[])
+    word_of(RFID, ArrayVec::new())
 }
 
 /// The branch from the last word of a program of 131,072 words to its first one.
 pub(crate) fn back() -> u32
     ensures { result ≡ word (codes "b") (neg_ℤ (pos 524284) ∷ []) }
 {
-    word_of(B, &[-524_284])
+    word_of(B, target(-524_284))
 }
 
 /// `add`: RT becomes the sum of RA and RB.
 fn add(t: u8, a: u8, b: u8) -> u32
     requires registers { (t < 32) × (a < 32) × (b < 32) }
-    ensures { result ≡ three (codes "add") t a b }
+    ensures { result ≡ of_three (codes "add") t a b }
 {
-    word_of(ADD, &[i64::from(t), i64::from(a), i64::from(b)])
+    word_of(ADD, registers(t, a, b))
 }
 
 /// `xor`: RA becomes RS xor RB.
 fn xor(t: u8, a: u8, b: u8) -> u32
     requires registers { (t < 32) × (a < 32) × (b < 32) }
-    ensures { result ≡ three (codes "xor") t a b }
+    ensures { result ≡ of_three (codes "xor") t a b }
 {
-    word_of(XOR, &[i64::from(t), i64::from(a), i64::from(b)])
+    word_of(XOR, registers(t, a, b))
 }
 
 /// `mulld`: RT becomes the low 64 bits of the product of RA and RB.
 fn mulld(t: u8, a: u8, b: u8) -> u32
     requires registers { (t < 32) × (a < 32) × (b < 32) }
-    ensures { result ≡ three (codes "mulld") t a b }
+    ensures { result ≡ of_three (codes "mulld") t a b }
 {
-    word_of(MULLD, &[i64::from(t), i64::from(a), i64::from(b)])
+    word_of(MULLD, registers(t, a, b))
 }
 
 /// `divd`: RT becomes the quotient of RA and RB.
 fn divd(t: u8, a: u8, b: u8) -> u32
     requires registers { (t < 32) × (a < 32) × (b < 32) }
-    ensures { result ≡ three (codes "divd") t a b }
+    ensures { result ≡ of_three (codes "divd") t a b }
 {
-    word_of(DIVD, &[i64::from(t), i64::from(a), i64::from(b)])
+    word_of(DIVD, registers(t, a, b))
 }
 
 /// `ld`: RT becomes the doubleword at this displacement behind register 3.
@@ -155,7 +214,7 @@ fn ld(t: u8, doubleword: u16) -> u32
     requires near { doubleword < 4096 }
     ensures { result ≡ access (codes "ld") t (8 * doubleword) }
 {
-    word_of(LD, &[i64::from(t), 8 * i64::from(doubleword), 3])
+    word_of(LD, place(t, 8 * doubleword, 3))
 }
 
 /// `std`: the doubleword at this displacement behind register 3 becomes RS.
@@ -164,7 +223,7 @@ fn std(t: u8, doubleword: u16) -> u32
     requires near { doubleword < 4096 }
     ensures { result ≡ access (codes "std") t (8 * doubleword) }
 {
-    word_of(STD, &[i64::from(t), 8 * i64::from(doubleword), 3])
+    word_of(STD, place(t, 8 * doubleword, 3))
 }
 
 /// `stw`: the word at this displacement behind register 3 becomes the low half of RS.
@@ -173,7 +232,7 @@ fn stw(t: u8, displacement: u16) -> u32
     requires near { displacement < 32768 }
     ensures { result ≡ access (codes "stw") t displacement }
 {
-    word_of(STW, &[i64::from(t), i64::from(displacement), 3])
+    word_of(STW, place(t, displacement, 3))
 }
 
 /// The SI that has these bits.
