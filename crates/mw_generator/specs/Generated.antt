@@ -98,9 +98,13 @@ chosen k t a b i =
 unfoldable pub drawn_word : ℕ → ℕ
 drawn_word x = chosen (draw 1 8 x) (8 + draw 2 8 x) (8 + draw 3 8 x) (8 + draw 4 8 x) (draw 5 65536 x)
 
--- so many drawn instructions, each from the number behind the one before, and then a branch back to the first of 131,071
+-- the branch from the last word of a program of 131,072 words to its first one
+abbrev pub back : ℕ
+back = word (codes "b") (neg_ℤ (pos 524284) ∷ [])
+
+-- so many drawn instructions, each from the number behind the one before, and then the branch back
 unfoldable pub program : ℕ → ℕ → List ℕ
-program zero x = word (codes "b") (neg_ℤ (pos 524284) ∷ []) ∷ []
+program zero x = back ∷ []
 program (suc n) x = drawn_word x ∷ program n (number_behind 5 x)
 
 -- the image of a seed over so many zeros

@@ -1,4 +1,4 @@
-ghost use Rattle.std.specs.Prelude.{◌≡◌, ◌+◌, ◌*◌, ◌<◌, ◌≤◌, pos, length, IfOk};
+ghost use Rattle.std.specs.Prelude.{◌≡◌, ◌+◌, ◌*◌, ◌^◌, ◌<◌, ◌≤◌, length, IfOk};
 ghost use Rattle.mw_generator.specs.Draws.{draw, next_number, number_behind};
 ghost use Rattle.mw_generator.specs.Generated.{drawn_word, generated, handler, image_of, leaf, load, loads, program, real_page, return, setup, start, with_leaves, with_tables, with_words};
 
@@ -175,7 +175,8 @@ fn drawn_word(draws: &mut Draws) -> u32
 /// Lays so many drawn instructions from a place on, and behind them the branch back.
 #[tactic(auto, unfolding(crate::specs::Generated::program))]
 fn lay_program(image: &mut Bytes, draws: &mut Draws, at: usize, count: usize)
-    requires { at + 4 * count + 4 ≤ length image.old }
+    requires room { at + 4 * count + 4 ≤ length image.old }
+    requires small { at + 4 * count < 2 ^ 64 }
     ensures image { image.new ≡ with_words at (program count draws.old) image.old }
     ensures whole { length image.new ≡ length image.old }
 {

@@ -1,4 +1,4 @@
-ghost use Rattle.std.specs.Prelude.{◌≡◌, ◌+◌, ◌*◌, ◌≤◌, length};
+ghost use Rattle.std.specs.Prelude.{◌≡◌, ◌+◌, ◌*◌, ◌^◌, ◌<◌, ◌≤◌, length};
 ghost use Rattle.mw_generator.specs.Generated.{with_doubleword, with_word, with_words};
 
 use mw_bits::Bytes;
@@ -26,7 +26,8 @@ pub(crate) fn lay_doubleword(image: &mut Bytes, at: usize, doubleword: u64)
 /// Lays words one behind the other from a place on.
 #[tactic(auto, unfolding(crate::specs::Generated::with_words))]
 pub(crate) fn lay_words(image: &mut Bytes, at: usize, words: &[u32])
-    requires { at + 4 * length words.now ≤ length image.old }
+    requires room { at + 4 * length words.now ≤ length image.old }
+    requires small { at + 4 * length words.now < 2 ^ 64 }
     ensures image { image.new ≡ with_words at words.now image.old }
     ensures whole { length image.new ≡ length image.old }
 {

@@ -1,7 +1,7 @@
 ghost use Rattle.std.specs.Prelude.{◌≡◌, ◌-◌, ◌*◌, ◌%◌, ◌^◌, ◌<◌, ◌≤◌, pos, neg_ℤ, ◌≤ℤ◌, ◌<ℤ◌, [], ◌∷◌, length, codes};
 ghost use Rattle.mw_decode.specs.Decode.{IsInsn};
 ghost use Rattle.mw_decode.specs.Encode.{encode_of};
-ghost use Rattle.mw_generator.specs.Generated.{access, chosen, of_three};
+ghost use Rattle.mw_generator.specs.Generated.{access, back, chosen, of_three};
 ghost use Rattle.mw_generator.specs.Instructions.{insn_at, li, lis, mtspr, si_of, word};
 
 use arrayvec::ArrayVec;
@@ -171,7 +171,7 @@ pub(crate) fn rfid() -> u32
 
 /// The branch from the last word of a program of 131,072 words to its first one.
 pub(crate) fn back() -> u32
-    ensures { result ≡ word (codes "b") (neg_ℤ (pos 524284) ∷ []) }
+    ensures { result ≡ back }
 {
     word_of(B, target(-524_284))
 }
