@@ -1,10 +1,10 @@
 -- The steps of what is laid one behind the other.
-use Rattle.std.proofs.Common.{◌≡◌, ℕ, zero, suc, ◌+◌, ◌*◌, List, [], ◌∷◌, refl, sym, ap, subst, ◌∙◌}
+use Rattle.std.proofs.Common.{◌≡◌, ℕ, suc, ◌+◌, ◌*◌, List, sym, ap}
 use Rattle.mw_generator.specs.Draws.{number_behind}
-use Rattle.mw_generator.specs.Generated.{with_word, with_words, with_doubleword, leaf, with_leaves, drawn_word, back, program}
+use Rattle.mw_generator.specs.Generated.{with_word, with_words, with_doubleword, leaf, leaves_at, with_leaves, drawn_word, back, program}
 
 -- the leaf of the first of the pages that are left is laid
-pub with_leaves-next : (n k turn g : ℕ) (bytes : List ℕ) → suc n ≡ k → with_leaves k turn g bytes ≡ with_leaves n turn (g + 1) (with_doubleword (0x32000 + 8 * g) (leaf turn g) bytes)
+pub with_leaves-next : (n k turn g : ℕ) (bytes : List ℕ) → suc n ≡ k → with_leaves k turn g bytes ≡ with_leaves n turn (g + 1) (with_doubleword (leaves_at + 8 * g) (leaf turn g) bytes)
 unfolding with_leaves
 with_leaves-next n k turn g bytes e = ap (λ j. with_leaves j turn g bytes) (sym e)
 

@@ -1,5 +1,5 @@
 -- The rows of the instructions that are drawn and of those around them: their names, and that they take their operands.
-use Rattle.std.proofs.Common.{◌≡◌, FitsSigned, ℕ, ◌+◌, ◌-◌, ◌*◌, ◌^◌, ◌<◌, ◌≤◌, Bool, true, false, List, [], ◌∷◌, slice_get, Option, Some, None, IsSomeAnd, ℤ, pos, negsuc, neg_ℤ, ◌-ℤ◌, ◌≤ℤ◌, ◌<ℤ◌, refl, sym, ap, subst, ◌∙◌, arith}
+use Rattle.std.proofs.Common.{◌≡◌, FitsSigned, ℕ, zero, suc, ◌-◌, ◌*◌, ◌<◌, ◌≤◌, false, List, slice_get, Option, Some, None, IsSomeAnd, ℤ, pos, negsuc, neg_ℤ, ◌-ℤ◌, ◌≤ℤ◌, ◌<ℤ◌, refl, sym, ap, subst, ◌∙◌, arith}
 use Rattle.std.specs.Prelude.{codes}
 use Rattle.std.specs.Int.{w16}
 use Rattle.std.specs.Option.{option_map_or}
@@ -7,15 +7,13 @@ use Rattle.std.proofs.lemmas.Int.{ints}
 use Rattle.std.proofs.lemmas.Bool.{false≢true}
 use Rattle.mw_tables.specs.declared.layout.Layout.{Layout}
 use Rattle.mw_tables.specs.declared.layout.Layout.TheVariants.{DRtRaSi, DRaRsUi, ITarget, XRtRaRb, XRaRsRb, XRt, DRtDRa, DsRtDRa, Empty, XfxSprRs}
-use Rattle.mw_tables.specs.declared.layout.Field.{Field}
 use Rattle.mw_tables.specs.Row.{TableRow}
 use Rattle.mw_tables.specs.Rows.{lines, table, layouts}
-use Rattle.mw_tables.specs.Layouts.{fields_of, rt, ra, rb, rs, si, ui, d, ds, li, spr, InRange, HasOperands, width_of, operand_from, signed_of}
+use Rattle.mw_tables.specs.Layouts.{fields_of, rt, si, ui, d, ds, li, spr, InRange, HasOperands}
 use Rattle.mw_tables.proofs.RangeLaws.{unsigned-InRange}
 use Rattle.mw_tables.proofs.FieldLaws.{signed_of-low, signed_of-high}
 use Rattle.mw_decode.specs.declared.rule.Rule.{Rule}
 use Rattle.mw_decode.specs.declared.rule.Rule.TheVariants.{AlwaysLegal}
-use Rattle.mw_decode.specs.declared.insn.Insn.{Insn}
 use Rattle.mw_decode.specs.Rules.{row_rules, is_illegal}
 use Rattle.mw_decode.specs.Decode.{IsInsn, HasForms}
 use Rattle.mw_decode.specs.Encode.{encode_of}
@@ -92,9 +90,14 @@ ds-InRange n below =
     let same : 8 * n ≡ 2 * n * 4 = omega arith in
     (2 * n, wide, ap pos same ∙ sym (signed_of-low 16 (2 * n * 4) (omega arith)))
 
--- the displacement of the branch back is in the range of LI
-pub back-InRange : InRange li (neg_ℤ (pos 524284))
-back-InRange = (16646145, omega arith, refl)
+-- back by so many words is in the range of LI
+pub back-InRange : (n : ℕ) → n ≤ 8388608 → InRange li (neg_ℤ (pos (4 * n)))
+back-InRange zero most = (0, omega arith, refl)
+back-InRange (suc k) most =
+    let wide : 16777216 - suc k < 16777216 = omega arith in
+    let high : 33554432 ≤ (16777216 - suc k) * 4 = omega arith in
+    let same : neg_ℤ (pos (4 * suc k)) ≡ pos ((16777216 - suc k) * 4) -ℤ pos 67108864 = omega (arith, ints) in
+    (16777216 - suc k, wide, same ∙ sym (signed_of-high 26 ((16777216 - suc k) * 4) high))
 
 pub addi-row : IsRow (codes "addi") 0 DRtRaSi
 unfolding row_named row_rules table layouts lines

@@ -1,10 +1,10 @@
 ghost use Rattle.std.specs.Prelude.{◌≡◌, ◌+◌, ◌*◌, ◌^◌, ◌<◌, ◌≤◌, length, IfOk};
 ghost use Rattle.mw_generator.specs.Draws.{draw, next_number, number_behind};
-ghost use Rattle.mw_generator.specs.Generated.{drawn_word, generated, handler, image_of, leaf, load, loads, program, real_page, return, setup, start, with_leaves, with_tables, with_words};
+ghost use Rattle.mw_generator.specs.Generated.{back, drawn_word, generated, handler, handler_at, image_over, image_size, leaf, leaf_count, load, loads, program, real_page, return, setup, start, with_leaves, with_tables, with_words};
 
 use crate::draws::Draws;
 use crate::laying::{lay_doubleword, lay_word, lay_words};
-use crate::word::{addi, back, chosen, li, lis, mfmsr, mtspr, ori, rfid, si_of};
+use crate::word::{addi, branch_back, chosen, li, lis, mfmsr, mtspr, ori, rfid, si_of};
 use mw_bits::Bytes;
 use std::alloc::{AllocError as NoMemory, Global};
 
@@ -77,7 +77,7 @@ fn return_from(period: u16) -> [u32; 3]
 /// Lays the start.
 #[tactic(auto, unfolding(crate::specs::Generated::with_words))]
 fn lay_start(image: &mut Bytes, draws: &mut Draws, period: u16)
-    requires room { 84 ≤ length image.old }
+    requires room { image_size ≤ length image.old }
     requires period { period < 2000 }
     ensures number { draws.new ≡ number_behind 8 draws.old }
     ensures image { image.new ≡ with_words 0 (start period draws.old) image.old }
@@ -91,9 +91,9 @@ fn lay_start(image: &mut Bytes, draws: &mut Draws, period: u16)
 /// Lays the handler.
 #[tactic(auto, unfolding(crate::specs::Generated::with_words))]
 fn lay_handler(image: &mut Bytes, period: u16)
-    requires room { 0x910 ≤ length image.old }
+    requires room { image_size ≤ length image.old }
     requires period { period < 2000 }
-    ensures image { image.new ≡ with_words 0x900 (handler period) image.old }
+    ensures image { image.new ≡ with_words handler_at (handler period) image.old }
     ensures whole { length image.new ≡ length image.old }
 {
     lay_word(image, HANDLER, addi(7, 7, 1));
@@ -103,7 +103,7 @@ fn lay_handler(image: &mut Bytes, period: u16)
 /// Lays the tables above the leaves.
 #[tactic(auto, unfolding(crate::specs::Generated::with_tables))]
 fn lay_tables(image: &mut Bytes)
-    requires { 0x31008 ≤ length image.old }
+    requires { image_size ≤ length image.old }
     ensures image { image.new ≡ with_tables image.old }
     ensures whole { length image.new ≡ length image.old }
 {
@@ -129,7 +129,7 @@ fn real_page(turn: u64, page: u64) -> u64
 /// The leaf of a page.
 fn leaf(turn: u64, page: u64) -> u64
     requires turn { turn < 8 }
-    requires page { page < 512 }
+    requires page { page < leaf_count }
     ensures { result ≡ leaf turn page }
 {
     0xc000_0000_0000_0187 + 4096 * real_page(turn, page)
@@ -139,8 +139,8 @@ fn leaf(turn: u64, page: u64) -> u64
 #[tactic(auto, unfolding(crate::specs::Generated::with_leaves))]
 fn lay_leaves(image: &mut Bytes, turn: u64, pages: usize)
     requires turn { turn < 8 }
-    requires pages { pages ≤ 512 }
-    requires room { 0x33000 ≤ length image.old }
+    requires pages { pages ≤ leaf_count }
+    requires room { image_size ≤ length image.old }
     ensures image { image.new ≡ with_leaves pages turn 0 image.old }
     ensures whole { length image.new ≡ length image.old }
 {
@@ -172,6 +172,13 @@ fn drawn_word(draws: &mut Draws) -> u32
     chosen(k, t, a, b, i)
 }
 
+/// The branch from behind the drawn instructions to the first of them.
+fn back() -> u32
+    ensures { result ≡ back }
+{
+    branch_back(LENGTH as u32)
+}
+
 /// Lays so many drawn instructions from a place on, and behind them the branch back.
 #[tactic(auto, unfolding(crate::specs::Generated::program))]
 fn lay_program(image: &mut Bytes, draws: &mut Draws, at: usize, count: usize)
@@ -190,10 +197,10 @@ fn lay_program(image: &mut Bytes, draws: &mut Draws, at: usize, count: usize)
 }
 
 /// The image of a seed, over so many zeros.
-#[tactic(auto, unfolding(crate::specs::Generated::image_of))]
-fn image_of(alloc: Global, size: usize, seed: u64) -> Result<Bytes, NoMemory>
-    requires { 0x18_0000 ≤ size }
-    ensures image { IfOk result (λ image. image ≡ image_of size seed) }
+#[tactic(auto, unfolding(crate::specs::Generated::image_over))]
+fn image_over(alloc: Global, size: usize, seed: u64) -> Result<Bytes, NoMemory>
+    requires { image_size ≤ size }
+    ensures image { IfOk result (λ image. image ≡ image_over size seed) }
     ensures whole { IfOk result (λ image. length image ≡ size) }
 {
     let mut image = Bytes::zeros(alloc, size)?;
@@ -212,7 +219,7 @@ fn image_of(alloc: Global, size: usize, seed: u64) -> Result<Bytes, NoMemory>
 #[tactic(auto, unfolding(crate::specs::Generated::generated))]
 pub fn generate(alloc: Global, seed: u64) -> Result<Bytes, NoMemory>
     ensures image { IfOk result (λ image. image ≡ generated seed) }
-    ensures whole { IfOk result (λ image. length image ≡ 1572864) }
+    ensures whole { IfOk result (λ image. length image ≡ image_size) }
 {
-    image_of(alloc, SIZE, seed)
+    image_over(alloc, SIZE, seed)
 }

@@ -1,13 +1,13 @@
-ghost use Rattle.std.specs.Prelude.{◌≡◌, ◌-◌, ◌*◌, ◌%◌, ◌^◌, ◌<◌, ◌≤◌, pos, neg_ℤ, ◌≤ℤ◌, ◌<ℤ◌, [], ◌∷◌, length, codes};
+ghost use Rattle.std.specs.Prelude.{◌≡◌, ◌*◌, ◌^◌, ◌<◌, ◌≤◌, pos, neg_ℤ, [], ◌∷◌, codes};
 ghost use Rattle.mw_decode.specs.Decode.{IsInsn};
 ghost use Rattle.mw_decode.specs.Encode.{encode_of};
-ghost use Rattle.mw_generator.specs.Generated.{access, back, chosen, of_three};
+ghost use Rattle.mw_generator.specs.Generated.{access, chosen, of_three};
 ghost use Rattle.mw_generator.specs.Instructions.{insn_at, li, lis, mtspr, si_of, word};
 
 use arrayvec::ArrayVec;
 use mw_decode::{Insn, encode};
 
-// The places of rows in the table of instructions.
+// Places of rows in the table of instructions; the lemmas of the words below say that they have these names.
 const ADDI: u16 = 0;
 const ADDIS: u16 = 1;
 const ORI: u16 = 10;
@@ -32,12 +32,12 @@ fn register(x: u8) -> ArrayVec<i64, 6>
     operands
 }
 
-/// A displacement as an operand.
-fn target(displacement: i32) -> ArrayVec<i64, 6>
-    ensures { result.items ≡ displacement ∷ [] }
+/// The displacement of a branch back by so many words as an operand.
+fn backwards(words: u32) -> ArrayVec<i64, 6>
+    ensures { result.items ≡ neg_ℤ (pos (4 * words)) ∷ [] }
 {
     let mut operands = ArrayVec::new();
-    operands.push(i64::from(displacement));
+    operands.push(-(4 * i64::from(words)));
     operands
 }
 
@@ -169,11 +169,12 @@ pub(crate) fn rfid() -> u32
     word_of(RFID, ArrayVec::new())
 }
 
-/// The branch from the last word of a program of 131,072 words to its first one.
-pub(crate) fn back() -> u32
-    ensures { result ≡ back }
+/// `b` back by so many words, counted from itself.
+pub(crate) fn branch_back(words: u32) -> u32
+    requires { words ≤ 2 ^ 23 }
+    ensures { result ≡ word (codes "b") (neg_ℤ (pos (4 * words)) ∷ []) }
 {
-    word_of(B, target(-524_284))
+    word_of(B, backwards(words))
 }
 
 /// `add`: RT becomes the sum of RA and RB.

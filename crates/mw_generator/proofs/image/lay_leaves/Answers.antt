@@ -1,5 +1,5 @@
 use Rattle.std.proofs.Common.{◌≡◌, ℕ, suc, ◌+◌, ◌*◌, ◌-◌, sym, ap, ◌∙◌, arith}
-use Rattle.mw_generator.specs.Generated.{with_leaves, with_doubleword}
+use Rattle.mw_generator.specs.Generated.{leaves_at, with_leaves, with_doubleword}
 use Rattle.mw_generator.proofs.LayingLemmas.{with_leaves-next}
 use Rattle.mw_generator.proofs.image.lay_leaves.Goals as goal
 
@@ -11,7 +11,7 @@ loop-page-preserved c =
     record {
       whole = c.lay_doubleword.ensures.whole ∙ c.loop-page.invariant.whole;
       same =
-        ap (with_leaves (c.args.pages - (page + 1)) c.args.turn (page + 1)) (c.lay_doubleword.ensures.image ∙ ap (λ d. with_doubleword (0x32000 + 8 * page) d c.loop-page.image) c.leaf.ensures)
+        ap (with_leaves (c.args.pages - (page + 1)) c.args.turn (page + 1)) (c.lay_doubleword.ensures.image ∙ ap (λ d. with_doubleword (leaves_at + 8 * page) d c.loop-page.image) c.leaf.ensures)
         ∙ sym (with_leaves-next (c.args.pages - (page + 1)) (c.args.pages - page) c.args.turn page c.loop-page.image left)
         ∙ c.loop-page.invariant.same;
     }

@@ -1,4 +1,4 @@
-use Rattle.std.proofs.Common.{◌≡◌, ◌+◌, ◌-◌, length}
+use Rattle.std.proofs.Common.{◌≡◌, ◌-◌, length}
 use Rattle.mw_generator.specs.Generated.{with_leaves}
 use Rattle.mw_generator.proofs.image.lay_leaves.Given as goal
 

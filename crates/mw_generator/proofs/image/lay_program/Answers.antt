@@ -1,4 +1,4 @@
-use Rattle.std.proofs.Common.{◌≡◌, ℕ, suc, ◌+◌, ◌*◌, ◌-◌, sym, ap, ◌∙◌, arith}
+use Rattle.std.proofs.Common.{◌≡◌, ℕ, suc, ◌+◌, ◌-◌, sym, ap, ◌∙◌, arith}
 use Rattle.mw_generator.specs.Generated.{with_word, with_words, program}
 use Rattle.mw_generator.proofs.LayingLemmas.{program-next, program-end}
 use Rattle.mw_generator.proofs.image.lay_program.Goals as goal
