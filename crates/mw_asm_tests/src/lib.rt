@@ -2,6 +2,8 @@
 #![tactic(auto)]
 
 #[cfg(test)]
+mod generator;
+#[cfg(test)]
 mod images;
 #[cfg(test)]
 mod lines;
