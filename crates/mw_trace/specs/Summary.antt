@@ -1,5 +1,5 @@
 -- The summary of a run that was made from a seed.
-use Rattle.std.specs.Prelude.{ℕ, ◌+◌, ◌%◌, ◌^◌, Bool, true, false, List, [], ◌∷◌, ◌++◌, sum, count_by, codes, decimal}
+use Rattle.std.specs.Prelude.{ℕ, ◌%◌, ◌^◌, Bool, true, false, List, [], ◌∷◌, ◌++◌, sum, count_by, codes, decimal}
 use Rattle.mw_digits.specs.Digits.{hex}
 use Rattle.mw_isa.specs.declared.event.Event.{Event}
 use Rattle.mw_isa.specs.declared.event.Event.TheVariants.{Retire, Trap, Irq}
