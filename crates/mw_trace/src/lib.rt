@@ -8,9 +8,11 @@ mod lines;
 mod numerals;
 mod reading;
 mod registers;
+mod summaries;
 mod text;
 mod words;
 
 pub use laws::{lines_read, texts_spell};
 pub use reading::{BadLine, read};
+pub use summaries::summary;
 pub use text::{end_line, event_lines, print};

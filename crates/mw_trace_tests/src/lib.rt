@@ -8,4 +8,6 @@ mod ends;
 #[cfg(test)]
 mod reading;
 #[cfg(test)]
+mod summaries;
+#[cfg(test)]
 mod trace;
