@@ -1,15 +1,16 @@
 -- When each status comes, from what it says.
 use Rattle.std.proofs.Common.{◌≡◌, ℕ, ◌⊎◌, inl, inr, List, Option, Some, None, IsSomeAnd, IfSome, IsSome, IsTrue, option_map, slice_get, refl, sym, ap, ◌∙◌, subst}
+use Rattle.mw_isa.specs.declared.event.End.{End}
 use Rattle.mw_io.specs.Outside.{HostState}
 use Rattle.mw_cli.specs.declared.status.Status.{Status}
 use Rattle.mw_cli.specs.declared.status.Status.TheVariants.{Done, Offence, Usage, ReadFault, WriteFault, ImageTooLarge, BadInput, NoMemory}
-use Rattle.mw_cli.specs.Command.{Wanted, Order, Run, Assemble, Disassemble, files_of, order_of}
-use Rattle.mw_cli.specs.Verdict.{Output, TextOf, Bytes, Verdict, Writes, Refuses, MayEnd, MayGive, end_by, first_of, text_by, verdict_of}
+use Rattle.mw_words.specs.Grammar.{Order, order_of}
+use Rattle.mw_cli.specs.Files.{Wanted, files_of}
+use Rattle.mw_cli.specs.Verdict.{Output, TextOf, SummaryOf, Bytes, IsOutput, Verdict, Writes, Refuses, MayEnd, MayGive, verdict_of}
 use Rattle.mw_cli.specs.Outside.{Change, contents_of}
 use Rattle.mw_cli.specs.Numbers.{ended}
 use Rattle.mw_cli.specs.Answers.{Call, ComesTo, Written, CutShort, Refused, Says, Faults, Asks, verdict_with, AreThere, Answers}
 use Rattle.mw_cli.proofs.FileLemmas.{Files}
-use Rattle.mw_cli.proofs.VerdictLemmas.{run-written}
 
 -- what some value has, the one value has
 pub at_some : {A : Type 0} (o : Option A) (P : A → Type 0) (x : A) → o ≡ Some x → IsSomeAnd o P → P x
@@ -38,15 +39,14 @@ refused-shows call status order told asks h =
 -- whatever is written, it may be done
 done-may : (output : Output) → MayEnd output Done
 done-may (TextOf run) = inl refl
+done-may (SummaryOf order) = inl refl
 done-may (Bytes bytes) = refl
 
--- where the status is that of an offence, what is written is the text of a run
-offence-may : (order : Order) (contents : List (List ℕ)) (text : List ℕ) (output : Output) → verdict_of order contents ≡ Writes output → Offence ≡ ended (end_by order text) → MayEnd output Offence
-offence-may (Run order) contents text output e is =
-    let (short, (script, read, same)) = run-written order (first_of contents) (text_by order.script contents) output e in
-    subst (λ (o : Output). MayEnd o Offence) (sym same) (inr refl)
-offence-may (Assemble source) contents text output e is = cc
-offence-may (Disassemble image) contents text output e is = cc
+-- where the status is that of an offence, what is written tells of a run
+offence-may : (output : Output) (text : List ℕ) (end : Option End) → IsOutput output text end → Offence ≡ ended end → MayEnd output Offence
+offence-may (TextOf run) text end is e = inr refl
+offence-may (SummaryOf order) text end is e = inr refl
+offence-may (Bytes bytes) text end (same, none) e = let done : Offence ≡ Done = e ∙ ap ended none in cc
 
 -- what is written shows the verdict
 written-shows : (call : Call) (status : Status) (order : Order) (told : List ℕ → Option (List ℕ)) (output : Output) → Asks call order told → ComesTo call.host order (Writes output) → MayEnd output status → Shows (verdict_with told order) status
@@ -56,15 +56,15 @@ written-shows call status order told output asks comes may =
 -- each status that says why it comes shows what the order comes to
 shows : (call : Call) (status : Status) (order : Order) (told : List ℕ → Option (List ℕ)) → Asks call order told → Says call status → Shows (verdict_with told order) status
 shows call Done order told asks says =
-    let (text, (output, comes, is), took, ends) = at_some (order_of call.words) (λ (o : Order). Written call.host call.out o Done) order asks.0 says.0 in
+    let (text, end, (output, comes, is), took, ends) = at_some (order_of call.words) (λ (o : Order). Written call.host call.out o Done) order asks.0 says.0 in
     written-shows call Done order told output asks comes (done-may output)
 shows call Offence order told asks says =
-    let (text, (output, (contents, are, gives), is), took, ends) = at_some (order_of call.words) (λ (o : Order). Written call.host call.out o Offence) order asks.0 says.0 in
-    written-shows call Offence order told output asks (contents, are, gives) (offence-may order contents text output gives ends)
+    let (text, end, (output, comes, is), took, ends) = at_some (order_of call.words) (λ (o : Order). Written call.host call.out o Offence) order asks.0 says.0 in
+    written-shows call Offence order told output asks comes (offence-may output text end is ends)
 shows call Usage order told asks says = absurd (some_or_none _ order asks.0 says.0)
 shows call ReadFault order told asks says = inr (inl refl)
 shows call WriteFault order told asks says =
-    let (text, (output, comes, is), took) = at_some (order_of call.words) (CutShort call.host call.out) order asks.0 says.0 in
+    let (text, end, (output, comes, is), took) = at_some (order_of call.words) (CutShort call.host call.out) order asks.0 says.0 in
     inr (inr (inl (refl, (output, comes-told call.host order told (Writes output) asks.1 comes))))
 shows call ImageTooLarge order told asks says = refused-shows call ImageTooLarge order told asks says
 shows call BadInput order told asks says = refused-shows call BadInput order told asks says

@@ -7,9 +7,8 @@ use Rattle.mw_cli.specs.declared.status.Status.{Status}
 use Rattle.mw_cli.specs.declared.status.Status.TheVariants.{Done, Offence, ReadFault, WriteFault, NoMemory}
 use Rattle.mw_cli.specs.declared.refusal.Refusal.{Refusal}
 use Rattle.mw_cli.specs.declared.refusal.Refusal.TheVariants.{Unreadable, Unwritable, TooLarge, Bad, OutOfMemory}
-use Rattle.mw_cli.specs.Command.{Order, order_of}
+use Rattle.mw_words.specs.Grammar.{Order, order_of}
 use Rattle.mw_cli.specs.Outside.{Change, change, TookNothing, TookUnlessFault}
-use Rattle.mw_cli.specs.Verdict.{end_by}
 use Rattle.mw_cli.specs.Numbers.{status_of, ended}
 use Rattle.mw_cli.specs.Answers.{Call, OnOrder, Written, Obeyed, Says, Faults}
 use Rattle.mw_cli.specs.Stages.{line_of, GivesNothing, HasCause}
@@ -75,6 +74,6 @@ says-ended call (Some (Ran cycle)) h = h
 says-ended call (Some (Offended cycle access)) h = h
 
 pub says-written : (call : Call) (order : Order) (status : Status) → order_of call.words ≡ Some order → TookNothing call.err → Written call.host call.out order status → Says call status
-says-written call order status e silent (text, gives, took, is) =
+says-written call order status e silent (text, end, gives, took, is) =
     subst (Says call) (sym is)
-    (says-ended call (end_by order text) (on-order call order (λ (o : Order). Written call.host call.out o (ended (end_by order text))) e (text, gives, took, refl), silent))
+    (says-ended call end (on-order call order (λ (o : Order). Written call.host call.out o (ended end)) e (text, end, gives, took, refl), silent))

@@ -5,7 +5,7 @@ use Rattle.mw_io.specs.Outside.{HostState, Rose, content_of}
 use Rattle.mw_asm.specs.Assembled.{assembled}
 use Rattle.mw_uart.specs.Script.{script_of}
 use Rattle.mw_cli.specs.declared.status.Status.TheVariants.{Offence, Usage, ReadFault, WriteFault, ImageTooLarge, BadInput}
-use Rattle.mw_cli.specs.Command.{RunOrder, Order, Run, Assemble, Disassemble, order_of}
+use Rattle.mw_words.specs.Grammar.{RunOrder, Order, Run, Assemble, Disassemble, order_of}
 use Rattle.mw_cli.specs.Outside.{Change}
 use Rattle.mw_cli.specs.Answers.{Call, Asks, Answers}
 use Rattle.mw_cli.specs.Stages.{IsContent, IsTooLong}

@@ -1,5 +1,6 @@
 -- What the answers say of each status by itself, for any order and for a run, a source and a disassembly.
 use Rattle.std.proofs.Common.{◌≡◌, ℕ, ◌<◌, ◌≤◌, ◌⊎◌, inl, inr, List, [], ◌∷◌, length, Option, Some, None, Result, Ok, Err, IfSome, IsSome, IsSomeAnd, IsTrue, ◌++◌, option_map, slice_get, unwrap_or, refl, sym, ap, ◌∙◌, subst, arith}
+use Rattle.std.specs.Option.{option_map_or}
 use Rattle.std.proofs.lemmas.Bool.{cases_lt}
 use Rattle.std.proofs.lemmas.List.{append_cancel_left}
 use Rattle.mw_isa.specs.declared.event.End.{End}
@@ -16,12 +17,13 @@ use Rattle.mw_asm.specs.Assembled.{assembled}
 use Rattle.mw_asm.specs.Disassembly.{disassembly}
 use Rattle.mw_cli.specs.declared.status.Status.{Status}
 use Rattle.mw_cli.specs.declared.status.Status.TheVariants.{Done, Offence, Usage, ReadFault, WriteFault, ImageTooLarge, BadInput, NoMemory}
-use Rattle.mw_cli.specs.Command.{Wanted, RunOrder, Order, Run, Assemble, Disassemble, files_of, script_files, order_of}
-use Rattle.mw_cli.specs.Headline.{AskedRun, Prints, SpellsRun}
-use Rattle.mw_cli.specs.Verdict.{Output, TextOf, Bytes, IsOutput, Verdict, Writes, Refuses, first_of, second_of, text_by, end_by, run_by, verdict_by, with_script, unless_too_large, unless_bad, too_large_line, bad_line}
+use Rattle.mw_words.specs.Grammar.{RunOrder, SeedOrder, Order, Run, Assemble, Disassemble, Generate, order_of}
+use Rattle.mw_cli.specs.Files.{Wanted, files_of, script_files}
+use Rattle.mw_cli.specs.Headline.{AskedRun, Prints, SpellsRun, SumsUp}
+use Rattle.mw_cli.specs.Verdict.{Output, TextOf, SummaryOf, Bytes, IsOutput, Verdict, Writes, Refuses, first_of, second_of, text_by, run_by, verdict_by, with_script, unless_too_large, unless_bad, too_large_line, bad_line}
 use Rattle.mw_cli.specs.Numbers.{ended}
 use Rattle.mw_cli.specs.Outside.{Change, contents_of, TookNothing, Took, TookFront}
-use Rattle.mw_cli.specs.Answers.{Call, ComesTo, Written, CutShort, OnOrder, Refused, Asks, IsUnanswered, Answers, verdict_with}
+use Rattle.mw_cli.specs.Answers.{Call, ComesTo, Written, CutShort, OnOrder, Refused, Asks, IsUnanswered, Answers, GoesThrough, verdict_with}
 use Rattle.mw_cli.specs.Stages.{IsContent, IsTooLong, IsStart, IsBadScript}
 use Rattle.mw_cli.proofs.FileLemmas.{Files}
 use Rattle.mw_cli.proofs.EndLemmas.{OffendsBelow, ran-to, offended}
@@ -178,8 +180,8 @@ listing-bad : (host : Change HostState) (name line : List ℕ) → ComesTo host 
 listing-bad host name line (contents, are, comes) = elim (long-or-so (first_of contents) _ BadInput line comes) [ inl (long, e) ↦ cc | inr (short, e) ↦ cc ]
 
 -- the text of a run that isn't refused is of a run of the image's content and the script's
-run-gives-text : (host : Change HostState) (order : RunOrder) (output : Output) (text : List ℕ) → ComesTo host (Run order) (Writes output) → IsOutput output text → (image : List ℕ) × (script : List (ℕ × ℕ)) × IsStart host order image script × SpellsRun (run_by order image script) text
-run-gives-text host order output text (contents, are, gives) is =
+run-gives-text : (host : Change HostState) (order : RunOrder) (output : Output) (text : List ℕ) (end : Option End) → ComesTo host (Run order) (Writes output) → IsOutput output text end → (image : List ℕ) × (script : List (ℕ × ℕ)) × IsStart host order image script × IsOutput (TextOf (run_by order image script)) text end
+run-gives-text host order output text end (contents, are, gives) is =
     let (short, (script, read, same)) = run-written order (first_of contents) (text_by order.script contents) output gives in (
       first_of contents,
       script,
@@ -188,7 +190,7 @@ run-gives-text host order output text (contents, are, gives) is =
         image_fits = short;
         script_is = script-from host order.script (text_by order.script contents) script (text-is host.before.files (record { name = order.image; most = ram_size }) order.script contents are) read;
       },
-      subst (λ (o : Output). IsOutput o text) same is,
+      subst (λ (o : Output). IsOutput o text end) same is,
     )
 
 -- ---- Done, Offence and WriteFault, of a run
@@ -200,9 +202,9 @@ RanWith call order status = (image : List ℕ) × (script : List (ℕ × ℕ)) �
 -- a run that was carried out
 ran-with : (call : Call) (order : RunOrder) (status : Status) → order_of call.words ≡ Some (Run order) → OnOrder call (λ o. Written call.host call.out o status) → RanWith call order status
 ran-with call order status asked says =
-    let (text, (output, gives, is), took, ends) = at_some (order_of call.words) (λ (o : Order). Written call.host call.out o status) (Run order) asked says in
-    let (image, script, start, spells) = run-gives-text call.host order output text gives is in
-    (image, script, text, start, spells, took, ends)
+    let (text, end, (output, gives, is), took, ends) = at_some (order_of call.words) (λ (o : Order). Written call.host call.out o status) (Run order) asked says in
+    let (image, script, start, (spells, told)) = run-gives-text call.host order output text end gives is in
+    (image, script, text, start, spells, took, ends ∙ ap ended told)
 
 -- a text that spells a run has its end, which is one of so many cycles
 spelled-end : (run : AskedRun) (text : List ℕ) → SpellsRun run text → (end : End) × (end_of text ≡ Some end) × StopsBy run.cycles end
@@ -253,26 +255,94 @@ end-tells call NoMemory order text asked told took (inr e) a = cc
 
 -- ---- an assembly and a disassembly never end with an offence
 
--- where the words are an order without a run
-no-offence : (call : Call) (order : Order) → order_of call.words ≡ Some order → ((text : List ℕ) → end_by order text ≡ None) → Answers call Offence → ⊥
-no-offence call order asked none a =
-    let (text, gives, took, ends) = at_some (order_of call.words) (λ (o : Order). Written call.host call.out o Offence) order asked a.says.0 in
-    let same : Offence ≡ Done = ends ∙ ap ended (none text) in
+-- where what is written for the words' order isn't of a run
+no-offence : (call : Call) (order : Order) → order_of call.words ≡ Some order → ((output : Output) → ComesTo call.host order (Writes output) → (bytes : List ℕ) × (output ≡ Bytes bytes)) → Answers call Offence → ⊥
+no-offence call order asked plain a =
+    let (text, end, (output, comes, is), took, ends) = at_some (order_of call.words) (λ (o : Order). Written call.host call.out o Offence) order asked a.says.0 in
+    let (bytes, same) = plain output comes in
+    let (t, none) = subst (λ (o : Output). IsOutput o text end) same is in
+    let done : Offence ≡ Done = ends ∙ ap ended none in
     cc
 
+-- what is written of a source are its bytes
+source-plain : (name : List ℕ) (r : Result (List ℕ) Place) (output : Output) → unless_bad name r ≡ Writes output → (bytes : List ℕ) × (output ≡ Bytes bytes)
+source-plain name (Ok bytes) output e = (bytes, cc)
+source-plain name (Err place) output e = cc
+
 pub no-offence-source : (call : Call) (source : List ℕ) → order_of call.words ≡ Some (Assemble source) → Answers call Offence → ⊥
-no-offence-source call source asked a = no-offence call (Assemble source) asked (λ text. refl) a
+no-offence-source call source asked a = no-offence call (Assemble source) asked (λ output (contents, are, comes). source-plain source (assembled (first_of contents)) output comes) a
+
+-- what is written of a disassembly is its text
+listing-plain : (image text : List ℕ) (output : Output) → unless_too_large image (Writes (Bytes text)) ≡ Writes output → (bytes : List ℕ) × (output ≡ Bytes bytes)
+listing-plain image text output e = elim (cases_lt 16777216 (length image)) [
+  | inl long ↦ let refused : Refuses ImageTooLarge too_large_line ≡ Writes output = sym (too_long image (Writes (Bytes text)) long) ∙ e in cc
+  | inr short ↦ let same : Writes (Bytes text) ≡ Writes output = sym (fits image (Writes (Bytes text)) short) ∙ e in (text, cc)
+]
 
 pub no-offence-disassembly : (call : Call) (image : List ℕ) → order_of call.words ≡ Some (Disassemble image) → Answers call Offence → ⊥
-no-offence-disassembly call image asked a = no-offence call (Disassemble image) asked (λ text. refl) a
+no-offence-disassembly call image asked a = no-offence call (Disassemble image) asked (λ output (contents, are, comes). listing-plain (first_of contents) (disassembly (first_of contents)) output comes) a
+
+-- ---- a run from a seed
+
+-- out took the summary of a run from the seed, whose end has this status
+abbrev SummedWith : Call → SeedOrder → Status → Type 0
+SummedWith call order status = (text : List ℕ) × (end : Option End) × SumsUp order text end × Took call.out text × (status ≡ ended end)
+
+-- what is written of a seed is the summary of a run from it
+summed : (host : Change HostState) (order : SeedOrder) (output : Output) (text : List ℕ) (end : Option End) → ComesTo host (Generate order) (Writes output) → IsOutput output text end → SumsUp order text end
+summed host order output text end (contents, are, comes) is =
+    let same : output ≡ SummaryOf order = cc in
+    subst (λ (o : Output). IsOutput o text end) same is
+
+summed-with : (call : Call) (order : SeedOrder) (status : Status) → order_of call.words ≡ Some (Generate order) → OnOrder call (λ o. Written call.host call.out o status) → SummedWith call order status
+summed-with call order status asked says =
+    let (text, end, (output, comes, is), took, ends) = at_some (order_of call.words) (λ (o : Order). Written call.host call.out o status) (Generate order) asked says in
+    (text, end, summed call.host order output text end comes is, took, ends)
+
+-- with Done out took the summary of a run from the seed, which ran to the number of cycles
+pub done-seed : (call : Call) (order : SeedOrder) → order_of call.words ≡ Some (Generate order) → Answers call Done → (text : List ℕ) × SumsUp order text (Some (Ran order.cycles)) × Took call.out text
+done-seed call order asked a =
+    let (text, all, (events, end, last, runs, whole, is), took, ends) = summed-with call order Done asked a.says.0 in
+    let ran : end ≡ Ran order.cycles = ran-to order.cycles end runs.stops (ends ∙ ap ended is) in
+    (text, (events, end, last, runs, whole, ap Some (sym ran)), took)
+
+-- with Offence it is that of a run that ended with an offence below the number of cycles
+pub offence-seed : (call : Call) (order : SeedOrder) → order_of call.words ≡ Some (Generate order) → Answers call Offence → (text : List ℕ) × (end : Option End) × SumsUp order text end × Took call.out text × OffendsBelow order.cycles end
+offence-seed call order asked a =
+    let (text, all, (events, end, last, runs, whole, is), took, ends) = summed-with call order Offence asked a.says.0 in
+    (text, all, (events, end, last, runs, whole, is), took, offended order.cycles all end is runs.stops (ends ∙ ap ended is))
+
+-- with WriteFault out took a front of such a summary
+pub cut-seed : (call : Call) (order : SeedOrder) → order_of call.words ≡ Some (Generate order) → Answers call WriteFault → (text : List ℕ) × (end : Option End) × SumsUp order text end × TookFront call.out text
+cut-seed call order asked a =
+    let (text, end, (output, comes, is), took) = at_some (order_of call.words) (CutShort call.host call.out) (Generate order) asked a.says.0 in
+    (text, end, summed call.host order output text end comes is, took)
+
+-- it opens no file, so none is unread
+pub no-file-seed : (call : Call) (order : SeedOrder) → order_of call.words ≡ Some (Generate order) → Answers call ReadFault → ⊥
+no-file-seed call order asked a = let (name, (k, named, opened, absent), only) = at_some (order_of call.words) _ (Generate order) asked a.says in cc
+
+-- it is never refused
+never-refused : (call : Call) (order : SeedOrder) (status : Status) → order_of call.words ≡ Some (Generate order) → Refused call status → ⊥
+never-refused call order status asked h = let (line, (contents, are, comes), only) = at_some (order_of call.words) _ (Generate order) asked h in cc
+
+pub too-large-seed : (call : Call) (order : SeedOrder) → order_of call.words ≡ Some (Generate order) → Answers call ImageTooLarge → ⊥
+too-large-seed call order asked a = never-refused call order ImageTooLarge asked a.says
+
+pub bad-seed : (call : Call) (order : SeedOrder) → order_of call.words ≡ Some (Generate order) → Answers call BadInput → ⊥
+bad-seed call order asked a = never-refused call order BadInput asked a.says
+
+-- it leaves the host as it is
+pub host-stays-seed : (call : Call) (order : SeedOrder) (status : Status) → order_of call.words ≡ Some (Generate order) → GoesThrough call status → call.host.after ≡ call.host.before
+host-stays-seed call order status asked goes = goes.1 (ap (λ (o : Option Order). option_map_or files_of o []) asked)
 
 -- ---- WriteFault, of a run
 
 -- with WriteFault out took a front of a text of a run of the image and the script
 pub cut-run : (call : Call) (order : RunOrder) → order_of call.words ≡ Some (Run order) → Answers call WriteFault → (image : List ℕ) × (script : List (ℕ × ℕ)) × (text : List ℕ) × IsStart call.host order image script × SpellsRun (run_by order image script) text × TookFront call.out text
 cut-run call order asked a =
-    let (text, (output, gives, is), took) = at_some (order_of call.words) (CutShort call.host call.out) (Run order) asked a.says.0 in
-    let (image, script, start, spells) = run-gives-text call.host order output text gives is in
+    let (text, end, (output, gives, is), took) = at_some (order_of call.words) (CutShort call.host call.out) (Run order) asked a.says.0 in
+    let (image, script, start, (spells, told)) = run-gives-text call.host order output text end gives is in
     (image, script, text, start, spells, took)
 
 -- ---- ImageTooLarge and BadInput come only with their causes
@@ -341,6 +411,9 @@ always-bad-input call status source told place asks bad a = a.exactly (Assemble 
 
 pub complete-run : (call : Call) (status : Status) (order : RunOrder) (told : List ℕ → Option (List ℕ)) (script : List (ℕ × ℕ)) → Asks call (Run order) told → length (content_of told order.image) ≤ 16777216 → script_of (script_text told order.script) ≡ Ok script → ¬ (Rose call.host.before.faults call.host.after.faults) → ¬ (Rose call.out.before.faults call.out.after.faults) → Answers call status → ((status ≡ Done) ⊎ (status ≡ Offence)) ⊎ (status ≡ NoMemory)
 complete-run call status order told script asks short read host out a = a.complete (Run order) told (TextOf (run_by order (content_of told order.image) script)) asks (comes-to order told script short read) host out
+
+pub complete-seed : (call : Call) (status : Status) (order : SeedOrder) (told : List ℕ → Option (List ℕ)) → Asks call (Generate order) told → ¬ (Rose call.host.before.faults call.host.after.faults) → ¬ (Rose call.out.before.faults call.out.after.faults) → Answers call status → ((status ≡ Done) ⊎ (status ≡ Offence)) ⊎ (status ≡ NoMemory)
+complete-seed call status order told asks host out a = a.complete (Generate order) told (SummaryOf order) asks refl host out
 
 pub complete-source : (call : Call) (status : Status) (source : List ℕ) (told : List ℕ → Option (List ℕ)) (bytes : List ℕ) → Asks call (Assemble source) told → assembled (content_of told source) ≡ Ok bytes → ¬ (Rose call.host.before.faults call.host.after.faults) → ¬ (Rose call.out.before.faults call.out.after.faults) → Answers call status → (status ≡ Done) ⊎ (status ≡ NoMemory)
 complete-source call status source told bytes asks ok host out a = a.complete (Assemble source) told (Bytes bytes) asks (ap (unless_bad source) ok) host out

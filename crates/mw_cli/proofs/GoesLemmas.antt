@@ -1,20 +1,29 @@
 -- How far a host goes through the files of an order.
-use Rattle.std.proofs.Common.{◌≡◌, ℕ, ◌≤◌, inl, List, [], ◌∷◌, length, Option, Some, Result, Ok, Err, IfErr, IfSome, refl, sym, ◌∙◌, subst, arith, append-nil}
+use Rattle.std.proofs.Common.{◌≡◌, ℕ, ◌≤◌, inl, inr, List, [], ◌∷◌, length, Option, Some, Result, Ok, Err, IfErr, IfSome, refl, sym, ◌∙◌, subst, arith, append-nil}
 use Rattle.std.specs.Option.{option_map_or}
 use Rattle.mw_isa.specs.declared.event.End.{End}
 use Rattle.mw_io.specs.Outside.{HostState, RoseBy, IsReadOn, content_of}
 use Rattle.mw_cli.specs.declared.status.Status.{Status}
-use Rattle.mw_cli.specs.declared.status.Status.TheVariants.{Done, Offence, ImageTooLarge}
+use Rattle.mw_cli.specs.declared.status.Status.TheVariants.{Done, Offence, ImageTooLarge, NoMemory}
 use Rattle.mw_cli.specs.declared.refusal.Refusal.{Refusal}
 use Rattle.mw_cli.specs.declared.refusal.Refusal.TheVariants.{Unreadable, Unwritable, TooLarge, Bad, OutOfMemory}
 use Rattle.mw_uart.specs.Script.{text_limit}
-use Rattle.mw_cli.specs.Command.{Wanted, Order, script_files, files_of, files_by, order_of}
+use Rattle.mw_words.specs.Grammar.{Order, order_of}
+use Rattle.mw_cli.specs.Files.{Wanted, script_files, files_of, files_by}
 use Rattle.mw_cli.specs.Numbers.{status_of, ended}
 use Rattle.mw_cli.specs.Outside.{Change, change, Opens, IsLeft, reach}
-use Rattle.mw_cli.specs.Answers.{Goes}
+use Rattle.mw_cli.specs.Answers.{Goes, StaysWithout}
 use Rattle.mw_cli.specs.Stages.{ending, IsRunRefusal, IsScriptRefusal}
 use Rattle.mw_cli.proofs.FileLemmas.{Files}
 use Rattle.mw_cli.proofs.EndLemmas.{ended-other}
+
+-- a host that opened no file
+pub opens-none : (host : HostState) → Opens (change host host) []
+opens-none host = record {
+  opened = (omega arith, omega arith);
+  given = omega arith;
+  left = tt;
+}
 
 -- a host that opened all files went as far as the status says, if with ImageTooLarge there is one file at most
 pub goes-all : (host : Change HostState) (files : List Wanted) (status : Status) → Opens host files → (status ≡ ImageTooLarge → length files ≤ 1) → Goes host files status
@@ -102,6 +111,28 @@ pub goes-both : (before middle after : HostState) (image : Wanted) (named : Opti
 goes-both before middle after image named name status e same other first second =
     subst (λ (n : Option (List ℕ)). Goes (change before after) (image ∷ script_files n) status) (sym e)
     (goes-all (change before after) (image ∷ record { name = name; most = text_limit } ∷ []) status (opens-both before middle after image (record { name = name; most = text_limit }) same first second) (λ s. absurd (other s)))
+
+-- a call that ends before it opens a file, for want of memory
+pub goes-nowhere : (host : HostState) (files : List Wanted) → Goes (change host host) files NoMemory
+goes-nowhere host files = (
+  [],
+  files,
+  refl,
+  opens-none host,
+  record {
+    to_last = λ e. elim e [ inl d ↦ cc | inr e ↦ elim e [ inl o ↦ cc | inr w ↦ cc ] ];
+    no_further = λ e. cc;
+    to_first = λ n e. absurd (n refl);
+  },
+)
+
+-- an order without a file
+pub goes-without : {T : Type 0} (host : HostState) (r : Result T Refusal) → IfErr r IsRunRefusal → Goes (change host host) [] (ending r)
+goes-without host r cause = goes-run (change host host) [] r cause (goes-all (change host host) [] Done (opens-none host) (λ e. absurd (done-other e)))
+
+-- the host stays where the words' order asks for no file
+pub stays-by : (host : Change HostState) (words : List (List ℕ)) (order : Order) → order_of words ≡ Some order → StaysWithout host (files_of order) → StaysWithout host (files_by words)
+stays-by host words order e stays = subst (λ (o : Option Order). StaysWithout host (option_map_or files_of o [])) (sym e) stays
 
 -- the files of the words' order
 pub goes-by : (host : Change HostState) (words : List (List ℕ)) (order : Order) (status result : Status) → order_of words ≡ Some order → result ≡ status → Goes host (files_of order) status → Goes host (files_by words) result

@@ -11,7 +11,7 @@ use Rattle.mw_isa.specs.Reading.{events_of, end_of}
 use Rattle.mw_isa.proofs.RunLaws.{has_some, run-spelled}
 use Rattle.mw_board.proofs.ImageLemmas.{start_with, RunsImage, runs-image}
 use Rattle.mw_cli.specs.declared.status.Status.TheVariants.{Done, Offence, WriteFault}
-use Rattle.mw_cli.specs.Command.{RunOrder, Run, order_of}
+use Rattle.mw_words.specs.Grammar.{RunOrder, Run, order_of}
 use Rattle.mw_cli.specs.Headline.{run_of, Prints, SpellsRun}
 use Rattle.mw_cli.specs.Outside.{Took, TookFront}
 use Rattle.mw_cli.specs.Answers.{Call, Answers}

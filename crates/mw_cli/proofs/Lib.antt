@@ -1,4 +1,3 @@
-pub mod CommandLemmas
 pub mod WritingLemmas
 pub mod FileLemmas
 pub mod RunLemmas

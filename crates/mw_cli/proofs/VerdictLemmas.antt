@@ -3,15 +3,18 @@ use Rattle.std.proofs.Common.{◌≡◌, ℕ, inl, inr, ◌<◌, ◌≤◌, Bool
 use Rattle.std.proofs.lemmas.Bool.{lt-ltb, le-ltb, cases_lt}
 use Rattle.mw_io.specs.Outside.{HostState, Counts, RoseBy, content_of}
 use Rattle.mw_asm.specs.declared.fault.Place.{Place}
+use Rattle.mw_isa.specs.declared.event.End.{End}
+use Rattle.mw_isa.specs.Reading.{end_of}
 use Rattle.mw_asm.specs.Assembled.{assembled}
 use Rattle.mw_asm.specs.Disassembly.{disassembly}
 use Rattle.mw_cli.specs.declared.status.Status.TheVariants.{Done, ReadFault, ImageTooLarge, BadInput}
 use Rattle.mw_cli.specs.declared.refusal.Refusal.{Refusal}
 use Rattle.mw_cli.specs.declared.refusal.Refusal.TheVariants.{Unreadable, Unwritable, TooLarge, Bad, OutOfMemory}
 use Rattle.mw_cli.specs.declared.product.Product.{Product}
-use Rattle.mw_cli.specs.Command.{RunOrder, Order, Run, Assemble, Disassemble, Wanted, files_of, script_files}
-use Rattle.mw_cli.specs.Headline.{SpellsRun}
-use Rattle.mw_cli.specs.Verdict.{Output, TextOf, Bytes, Verdict, Writes, Refuses, first_of, text_by, run_by, verdict_by, verdict_of, with_script, unless_too_large, unless_bad, too_large_line, bad_line}
+use Rattle.mw_words.specs.Grammar.{RunOrder, SeedOrder, Order, Run, Assemble, Disassemble, Generate}
+use Rattle.mw_cli.specs.Files.{Wanted, files_of, script_files}
+use Rattle.mw_cli.specs.Headline.{SpellsRun, SumsUp}
+use Rattle.mw_cli.specs.Verdict.{Output, TextOf, SummaryOf, Bytes, Verdict, Writes, Refuses, first_of, text_by, run_by, verdict_by, verdict_of, with_script, unless_too_large, unless_bad, too_large_line, bad_line}
 use Rattle.mw_cli.specs.Outside.{Change, change, contents_of}
 use Rattle.mw_cli.specs.Numbers.{status_of}
 use Rattle.mw_cli.specs.Answers.{ComesTo, Gives, IsUnread}
@@ -92,18 +95,28 @@ run-written order image text output e = elim (cases_lt 16777216 (length image)) 
 ]
 
 -- a run gives its text
-gives-run : (host : Change HostState) (order : RunOrder) (image : List ℕ) (script : List (ℕ × ℕ)) (text : List ℕ) → IsStart host order image script → SpellsRun (run_by order image script) text → Gives host (Run order) text
-gives-run host order image script text start spells =
+gives-run : (host : Change HostState) (order : RunOrder) (image : List ℕ) (script : List (ℕ × ℕ)) (text : List ℕ) (end : Option End) → IsStart host order image script → SpellsRun (run_by order image script) text → end ≡ end_of text → Gives host (Run order) text end
+gives-run host order image script text end start spells ends =
     let (source, is, read) = text-from host order.script script start.script_is in
-    (TextOf (run_by order image script), comes-run host order image source (Writes (TextOf (run_by order image script))) start.image_is is (starts order image source script start.image_fits read), spells)
+    (TextOf (run_by order image script), comes-run host order image source (Writes (TextOf (run_by order image script))) start.image_is is (starts order image source script start.image_fits read), (spells, ends))
 
 -- a source gives its bytes
-pub gives-source : (host : Change HostState) (name bytes : List ℕ) → (source : List ℕ) × IsContent host name source × (assembled source ≡ Ok bytes) → Gives host (Assemble name) bytes
-gives-source host name bytes (source, is, e) = (Bytes bytes, comes-source host name source (Writes (Bytes bytes)) is (ap (unless_bad name) e), refl)
+pub gives-source : (host : Change HostState) (name bytes : List ℕ) → (source : List ℕ) × IsContent host name source × (assembled source ≡ Ok bytes) → Gives host (Assemble name) bytes None
+gives-source host name bytes (source, is, e) = (Bytes bytes, comes-source host name source (Writes (Bytes bytes)) is (ap (unless_bad name) e), (refl, refl))
 
 -- an image gives its disassembly
-pub gives-listing : (host : Change HostState) (name image text : List ℕ) → IsContent host name image → length image ≤ 16777216 → text ≡ disassembly image → Gives host (Disassemble name) text
-gives-listing host name image text is short e = (Bytes (disassembly image), comes-listing host name image (Writes (Bytes (disassembly image))) is (fits image _ short), e)
+pub gives-listing : (host : Change HostState) (name image text : List ℕ) → IsContent host name image → length image ≤ 16777216 → text ≡ disassembly image → Gives host (Disassemble name) text None
+gives-listing host name image text is short e = (Bytes (disassembly image), comes-listing host name image (Writes (Bytes (disassembly image))) is (fits image _ short), (e, refl))
+
+-- an order without a file has no content
+no-content : (files : Files) → IfSome files (λ told. [] ≡ contents_of told [])
+no-content None = tt
+no-content (Some told) = refl
+
+-- a seed gives the summary of a run
+pub gives-seed : {E : Type 0} (host : Change HostState) (order : SeedOrder) (r : Result Product E) → IfOk r (λ product. SumsUp order product.bytes product.end) → IfOk r (λ product. Gives host (Generate order) product.bytes product.end)
+gives-seed host order (Ok product) sums = (SummaryOf order, ([], no-content host.before.files, refl), sums)
+gives-seed host order (Err error) sums = tt
 
 -- a file that isn't read is the one that the order asked for last
 unread : (host : Change HostState) (order : Order) (name which : List ℕ) → option_map (λ (file : Wanted). file.name) (slice_get (files_of order) 0) ≡ Some name → RoseBy 1 host.before.opened host.after.opened → which ≡ name → IsAbsent host name → IsUnread host order which
@@ -186,7 +199,7 @@ run-unscripted before middle after order image name Unwritable same sound first 
 run-unscripted before middle after order image name OutOfMemory same sound first second e is short cause = tt
 
 -- why a run has no text
-run-stops : (host : Change HostState) (order : RunOrder) (refusal : Refusal) → IsRunRefusal refusal → GivesNothing host (Run order) refusal
+run-stops : (host : Change HostState) (order : Order) (refusal : Refusal) → IsRunRefusal refusal → GivesNothing host order refusal
 run-stops host order (Unreadable which) cause = absurd cause
 run-stops host order TooLarge cause = absurd cause
 run-stops host order (Bad name line column) cause = absurd cause
@@ -194,11 +207,11 @@ run-stops host order Unwritable cause = absurd cause
 run-stops host order OutOfMemory cause = tt
 
 -- what a run gives, and why it gives nothing
-pub run-gives : (host : Change HostState) (order : RunOrder) (image : List ℕ) (script : List (ℕ × ℕ)) (r : Result Product Refusal) → IsStart host order image script → IfOk r (λ product. SpellsRun (run_by order image script) product.bytes) → IfOk r (λ product. Gives host (Run order) product.bytes)
-run-gives host order image script (Ok product) start spells = gives-run host order image script product.bytes start spells
-run-gives host order image script (Err refusal) start spells = tt
+pub run-gives : (host : Change HostState) (order : RunOrder) (image : List ℕ) (script : List (ℕ × ℕ)) (r : Result Product Refusal) → IsStart host order image script → IfOk r (λ product. SpellsRun (run_by order image script) product.bytes) → IfOk r (λ product. product.end ≡ end_of product.bytes) → IfOk r (λ product. Gives host (Run order) product.bytes product.end)
+run-gives host order image script (Ok product) start spells ends = gives-run host order image script product.bytes product.end start spells ends
+run-gives host order image script (Err refusal) start spells ends = tt
 
-pub run-refused : {T : Type 0} (host : Change HostState) (order : RunOrder) (r : Result T Refusal) → IfErr r IsRunRefusal → IfErr r (GivesNothing host (Run order))
+pub run-refused : {T : Type 0} (host : Change HostState) (order : Order) (r : Result T Refusal) → IfErr r IsRunRefusal → IfErr r (GivesNothing host order)
 run-refused host order (Ok value) cause = tt
 run-refused host order (Err refusal) cause = run-stops host order refusal cause
 

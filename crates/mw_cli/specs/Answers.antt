@@ -2,11 +2,13 @@
 use Rattle.std.specs.Prelude.{ℕ, ◌+◌, ◌≡◌, ◌≤◌, ◌⊎◌, List, [], ◌++◌, length, map, Option, Some, None, option_map, slice_get, Result, Ok, Err, IfSome, IsSome, IsSomeAnd, IsTrue, Vec, String, string_bytes, codes, ⊤}
 use Rattle.std.specs.Process.{exit_status}
 use Rattle.std.specs.declared.process.ExitCode.{ExitCode}
+use Rattle.mw_isa.specs.declared.event.End.{End}
 use Rattle.mw_io.specs.Outside.{HostState, SinkState, Counts, Rose, RoseBy}
 use Rattle.mw_cli.specs.declared.status.Status.{Status}
 use Rattle.mw_cli.specs.declared.status.Status.TheVariants.{Done, Offence, Usage, ReadFault, WriteFault, ImageTooLarge, BadInput, NoMemory}
-use Rattle.mw_cli.specs.Command.{Wanted, Order, files_of, files_by, order_of}
-use Rattle.mw_cli.specs.Verdict.{Output, IsOutput, Verdict, Writes, Refuses, MayEnd, MayGive, end_by, verdict_of}
+use Rattle.mw_words.specs.Grammar.{Order, order_of}
+use Rattle.mw_cli.specs.Files.{Wanted, files_of, files_by}
+use Rattle.mw_cli.specs.Verdict.{Output, IsOutput, Verdict, Writes, Refuses, MayEnd, MayGive, verdict_of}
 use Rattle.mw_cli.specs.Outside.{Change, contents_of, AreContents, Opens, TookNothing, Took, TookFront, TookUnlessFault}
 use Rattle.mw_cli.specs.Numbers.{number_of, ended}
 
@@ -19,7 +21,7 @@ pub record Call : Type 0 where
 
 -- the line on err where the words are no order
 abbrev pub usage_line : List ℕ
-usage_line = codes "mw: usage\n"
+usage_line = codes "mw: usage: mw run IMAGE --cycles N [--script FILE] [--dump A:L] | asm SOURCE | dis IMAGE | gen SEED --cycles N\n"
 
 -- the line on err for the file of this name, which isn't read
 abbrev pub unread_line : List ℕ → List ℕ
@@ -37,17 +39,18 @@ no_memory_line = codes "mw: out of memory\n"
 abbrev pub ComesTo : Change HostState → Order → Verdict → Type 0
 ComesTo host order verdict = (contents : List (List ℕ)) × AreContents host (files_of order) contents × (verdict_of order contents ≡ verdict)
 
--- the order comes to a text that is written, which is this one
-abbrev pub Gives : Change HostState → Order → List ℕ → Type 0
-Gives host order text = (output : Output) × ComesTo host order (Writes output) × IsOutput output text
+-- the order comes to a text that is written, which is this one, and this is the end of the run that it is of, if it is of
+-- one
+abbrev pub Gives : Change HostState → Order → List ℕ → Option End → Type 0
+Gives host order text end = (output : Output) × ComesTo host order (Writes output) × IsOutput output text end
 
 -- out took what is ordered, and the status is that of the end of the run that the text is of
 abbrev pub Written : Change HostState → Change SinkState → Order → Status → Type 0
-Written host out order status = (text : List ℕ) × Gives host order text × Took out text × (status ≡ ended (end_by order text))
+Written host out order status = (text : List ℕ) × (end : Option End) × Gives host order text end × Took out text × (status ≡ ended end)
 
 -- out took a front of what is ordered, and not all
 abbrev pub CutShort : Change HostState → Change SinkState → Order → Type 0
-CutShort host out order = (text : List ℕ) × Gives host order text × TookFront out text
+CutShort host out order = (text : List ℕ) × (end : Option End) × Gives host order text end × TookFront out text
 
 -- this is the name of the file that the order asked for last, and over a sound host the file isn't there
 abbrev pub IsUnread : Change HostState → Order → List ℕ → Type 0
@@ -131,9 +134,14 @@ pub record GoesFar (status : Status) (opened others : List Wanted) : Type 0 wher
 abbrev pub Goes : Change HostState → List Wanted → Status → Type 0
 Goes host files status = (opened : List Wanted) × (others : List Wanted) × (files ≡ opened ++ others) × Opens host opened × GoesFar status opened others
 
--- the call goes through the files that its words ask for, so far as its status says
+-- a host that is asked for none of these files is left as it is
+abbrev pub StaysWithout : Change HostState → List Wanted → Type 0
+StaysWithout host files = files ≡ [] → host.after ≡ host.before
+
+-- the call goes through the files that its words ask for, so far as its status says, and leaves the host as it is where
+-- they ask for none
 abbrev pub GoesThrough : Call → Status → Type 0
-GoesThrough call status = Goes call.host (files_by call.words) status
+GoesThrough call status = Goes call.host (files_by call.words) status × StaysWithout call.host (files_by call.words)
 
 -- these are the words that were given: any, where there was no memory for them
 abbrev pub AreWords : {A B E : Type 0} → Result (Vec (String A) B) E → List (List ℕ) → Type 0

@@ -1,6 +1,6 @@
--- In reading order: what the words say; the text of a run; what an order comes to; what the outside shows; what each
+-- In reading order: the files that the words ask for; the text of a run; what an order comes to; what the outside shows; what each
 -- status says.
-pub mod Command
+pub mod Files
 pub mod Headline
 pub mod Verdict
 pub mod Outside

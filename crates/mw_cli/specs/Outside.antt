@@ -2,7 +2,7 @@
 use Rattle.std.specs.Prelude.{ℕ, ◌+◌, ◌≡◌, ◌<◌, ◌≤◌, ◌⊎◌, List, map, length, take, Option, None, IfSome, IsTrue}
 use Rattle.std.specs.List.{last_or, sum_by}
 use Rattle.mw_io.specs.Outside.{HostState, SinkState, Rose, RoseBy, IsReadOn, content_of, with_more}
-use Rattle.mw_cli.specs.Command.{Wanted}
+use Rattle.mw_cli.specs.Files.{Wanted}
 
 -- what a host or a sink shows, before a call and after it
 pub record Change (A : Type 0) : Type 0 where

@@ -7,7 +7,8 @@ use Rattle.mw_cli.specs.declared.status.Status.{Status}
 use Rattle.mw_cli.specs.declared.status.Status.TheVariants.{Done}
 use Rattle.mw_cli.specs.declared.refusal.Refusal.{Refusal}
 use Rattle.mw_cli.specs.declared.refusal.Refusal.TheVariants.{Unreadable, Unwritable, TooLarge, Bad, OutOfMemory}
-use Rattle.mw_cli.specs.Command.{RunOrder, Wanted, Order}
+use Rattle.mw_words.specs.Grammar.{RunOrder, Order}
+use Rattle.mw_cli.specs.Files.{Wanted}
 use Rattle.mw_cli.specs.Verdict.{Refuses, too_large_line, bad_line}
 use Rattle.mw_cli.specs.Outside.{Change, TookNothing, TookFront}
 use Rattle.mw_cli.specs.Answers.{ComesTo, CutShort, IsUnread, unread_line, unwritten_line, no_memory_line}

@@ -9,8 +9,8 @@ use Rattle.mw_asm.specs.Assembled.{assembled}
 use Rattle.mw_asm.specs.Disassembly.{disassembly}
 use Rattle.mw_cli.specs.declared.status.Status.{Status}
 use Rattle.mw_cli.specs.declared.status.Status.TheVariants.{Done, Offence, ImageTooLarge, BadInput}
-use Rattle.mw_cli.specs.Command.{RunOrder, Order, Run, Assemble, Disassemble}
-use Rattle.mw_cli.specs.Headline.{AskedRun, run_of, SpellsRun}
+use Rattle.mw_words.specs.Grammar.{RunOrder, SeedOrder, Order, Run, Assemble, Disassemble, Generate}
+use Rattle.mw_cli.specs.Headline.{AskedRun, run_of, SpellsRun, SumsUp}
 
 -- the line on err for an image that is longer than RAM
 abbrev pub too_large_line : List ℕ
@@ -24,36 +24,33 @@ place_line line column = decimal line ++ codes ":" ++ (decimal column ++ codes "
 abbrev pub bad_line : List ℕ → ℕ → ℕ → List ℕ
 bad_line name line column = codes "mw: " ++ name ++ codes ":" ++ place_line line column
 
--- what is to be written: a text of this run, or just these bytes
+-- what is to be written: a text of this run, a summary of a run from this seed, or just these bytes
 pub data Output : Type 0 where
   TextOf : AskedRun → Output
+  SummaryOf : SeedOrder → Output
   Bytes : List ℕ → Output
 
--- the text is one of this run, or consists of these bytes
-abbrev pub IsOutput : Output → List ℕ → Type 0
-IsOutput (TextOf run) text = SpellsRun run text
-IsOutput (Bytes bytes) text = text ≡ bytes
+-- the text is such an output, and this is the end of the run that it is of, if it is of one
+abbrev pub IsOutput : Output → List ℕ → Option End → Type 0
+IsOutput (TextOf run) text end = SpellsRun run text × (end ≡ end_of text)
+IsOutput (SummaryOf order) text end = SumsUp order text end
+IsOutput (Bytes bytes) text end = (text ≡ bytes) × (end ≡ None)
 
 -- what an order comes to: something is written, or the order is refused with a status and a line on err
 pub data Verdict : Type 0 where
   Writes : Output → Verdict
   Refuses : Status → List ℕ → Verdict
 
--- an output that is written may have this status: Done, and the text of a run Offence too
+-- an output that is written may have this status: Done, and what is told of a run Offence too
 abbrev pub MayEnd : Output → Status → Type 0
 MayEnd (TextOf run) status = (status ≡ Done) ⊎ (status ≡ Offence)
+MayEnd (SummaryOf order) status = (status ≡ Done) ⊎ (status ≡ Offence)
 MayEnd (Bytes bytes) status = status ≡ Done
 
 -- a verdict may have this status: a refusal its own alone
 abbrev pub MayGive : Verdict → Status → Type 0
 MayGive (Writes output) status = MayEnd output status
 MayGive (Refuses refused line) status = status ≡ refused
-
--- the end of the run that an order asks for, by the text that is written of it
-abbrev pub end_by : Order → List ℕ → Option End
-end_by (Run order) text = end_of text
-end_by (Assemble source) text = None
-end_by (Disassemble image) text = None
 
 -- the first of the files' contents
 abbrev pub first_of : List (List ℕ) → List ℕ
@@ -97,4 +94,5 @@ verdict_by order image text = unless_too_large image (with_script (unwrap_or ord
 abbrev pub verdict_of : Order → List (List ℕ) → Verdict
 verdict_of (Run order) contents = verdict_by order (first_of contents) (text_by order.script contents)
 verdict_of (Assemble source) contents = unless_bad source (assembled (first_of contents))
+verdict_of (Generate order) contents = Writes (SummaryOf order)
 verdict_of (Disassemble image) contents = unless_too_large (first_of contents) (Writes (Bytes (disassembly (first_of contents))))

@@ -1,5 +1,6 @@
-ghost use Rattle.std.specs.Prelude.{◌≡◌, IfOk, IfErr, IsTrue};
-ghost use Rattle.mw_cli.specs.Command.{Assemble, files_of};
+ghost use Rattle.std.specs.Prelude.{◌≡◌, None, IfOk, IfErr, IsTrue};
+ghost use Rattle.mw_words.specs.Grammar.{Assemble};
+ghost use Rattle.mw_cli.specs.Files.{files_of};
 ghost use Rattle.mw_io.specs.Outside.{Counts};
 ghost use Rattle.mw_cli.specs.declared.status.Status.TheVariants.{ReadFault};
 ghost use Rattle.mw_cli.specs.Outside.{change};
@@ -23,7 +24,7 @@ pub fn image_of<'a, H: Host>(
     source: &'a str,
     host: &mut H,
 ) -> Result<Bytes, Refusal<'a>>
-    ensures gives { IfOk result (Gives (change (H.state host.old) (H.state host.new)) (Assemble source.now)) }
+    ensures gives { IfOk result (λ bytes. Gives (change (H.state host.old) (H.state host.new)) (Assemble source.now) bytes None) }
     ensures refused { IfErr result (GivesNothing (change (H.state host.old) (H.state host.new)) (Assemble source.now)) }
     ensures faults { Counts (H.state host.old).faults (H.state host.new).faults (ending result ≡ ReadFault) }
     ensures goes { Goes (change (H.state host.old) (H.state host.new)) (files_of (Assemble source.now)) (ending result) }

@@ -1,5 +1,6 @@
-ghost use Rattle.std.specs.Prelude.{◌≡◌, IfOk, IfErr, IsTrue};
-ghost use Rattle.mw_cli.specs.Command.{Disassemble, files_of};
+ghost use Rattle.std.specs.Prelude.{◌≡◌, None, IfOk, IfErr, IsTrue};
+ghost use Rattle.mw_words.specs.Grammar.{Disassemble};
+ghost use Rattle.mw_cli.specs.Files.{files_of};
 ghost use Rattle.mw_io.specs.Outside.{Counts};
 ghost use Rattle.mw_cli.specs.declared.status.Status.TheVariants.{ReadFault};
 ghost use Rattle.mw_cli.specs.Outside.{change};
@@ -19,7 +20,7 @@ pub fn listing_of<'a, H: Host>(
     image: &'a str,
     host: &mut H,
 ) -> Result<Bytes, Refusal<'a>>
-    ensures gives { IfOk result (Gives (change (H.state host.old) (H.state host.new)) (Disassemble image.now)) }
+    ensures gives { IfOk result (λ text. Gives (change (H.state host.old) (H.state host.new)) (Disassemble image.now) text None) }
     ensures refused { IfErr result (GivesNothing (change (H.state host.old) (H.state host.new)) (Disassemble image.now)) }
     ensures faults { Counts (H.state host.old).faults (H.state host.new).faults (ending result ≡ ReadFault) }
     ensures goes { Goes (change (H.state host.old) (H.state host.new)) (files_of (Disassemble image.now)) (ending result) }

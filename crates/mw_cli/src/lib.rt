@@ -2,7 +2,6 @@
 #![tactic(auto)]
 
 mod assembly;
-mod command;
 mod disassembly;
 mod main_call;
 mod process;
@@ -11,10 +10,12 @@ mod refusal;
 mod report;
 mod run;
 mod script;
+mod seeded;
 mod status;
 mod transfer;
 
 pub use main_call::mw_main;
+pub use mw_generator::generate;
 pub use process::{mw_process, words_of};
 pub use refusal::Refusal;
 pub use status::Status;

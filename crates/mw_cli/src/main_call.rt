@@ -1,23 +1,25 @@
 ghost use Rattle.std.specs.Prelude.{◌≡◌, map, string_bytes, IfOk, IfErr, IsTrue};
 ghost use Rattle.mw_io.specs.Outside.{Counts};
 ghost use Rattle.mw_cli.specs.declared.status.Status.TheVariants.{ReadFault};
-ghost use Rattle.mw_cli.specs.Command.{order_in, order_of, files_of, IsBounded};
-ghost use Rattle.mw_cli.specs.Verdict.{end_by};
+ghost use Rattle.mw_words.specs.Grammar.{order_of};
+ghost use Rattle.mw_words.specs.Commands.{order_in, IsBounded};
+ghost use Rattle.mw_cli.specs.Files.{files_of};
 ghost use Rattle.mw_cli.specs.Outside.{change};
 ghost use Rattle.mw_cli.specs.Numbers.{status_of};
-ghost use Rattle.mw_cli.specs.Answers.{Gives, Goes, Written, Says, Faults, Answers, GoesThrough};
+ghost use Rattle.mw_cli.specs.Answers.{Gives, Goes, StaysWithout, Written, Says, Faults, Answers, GoesThrough};
 ghost use Rattle.mw_cli.specs.Stages.{ending, final, GivesNothing, HasCause};
 
 use crate::assembly::image_of;
-use crate::command::{Command, read_words};
 use crate::disassembly::listing_of;
 use crate::product::Product;
 use crate::refusal::Refusal;
 use crate::report::{report, report_usage};
 use crate::run::run;
+use crate::seeded::run_of_seed;
 use crate::status::{Status, ended};
 use crate::transfer::write_out;
 use mw_io::{Host, Sink};
+use mw_words::{Command, WordsFault, read_words};
 use std::alloc::Global;
 
 /// The status of a refusal.
@@ -40,11 +42,11 @@ fn output_of<'a, H: Host>(
     host: &mut H,
 ) -> Result<Product, Refusal<'a>>
     requires bounded { IsBounded command.now }
-    ensures gives { IfOk result (λ product. Gives (change (H.state host.old) (H.state host.new)) (order_in command.now) product.bytes) }
-    ensures end { IfOk result (λ product. product.end ≡ end_by (order_in command.now) product.bytes) }
+    ensures gives { IfOk result (λ product. Gives (change (H.state host.old) (H.state host.new)) (order_in command.now) product.bytes product.end) }
     ensures refused { IfErr result (GivesNothing (change (H.state host.old) (H.state host.new)) (order_in command.now)) }
     ensures faults { Counts (H.state host.old).faults (H.state host.new).faults (ending result ≡ ReadFault) }
     ensures goes { Goes (change (H.state host.old) (H.state host.new)) (files_of (order_in command.now)) (ending result) }
+    ensures without { StaysWithout (change (H.state host.old) (H.state host.new)) (files_of (order_in command.now)) }
     ensures same_files { (H.state host.new).files ≡ (H.state host.old).files }
     ensures stays_sound { IsTrue (H.state host.old).is_sound → IsTrue (H.state host.new).is_sound }
 {
@@ -58,6 +60,7 @@ fn output_of<'a, H: Host>(
             Ok(bytes) => Ok(Product { bytes, end: None }),
             Err(refusal) => Err(refusal),
         },
+        Command::Generate { seed, cycles } => run_of_seed(alloc, *seed, *cycles),
     }
 }
 
@@ -75,6 +78,7 @@ fn fulfil<'a, H: Host, S: Sink>(
     ensures refused { IfErr result (HasCause (change (H.state host.old) (H.state host.new)) (change (S.state out.old) (S.state out.new)) (order_in command.now)) }
     ensures faults { Faults (change (H.state host.old) (H.state host.new)) (change (S.state out.old) (S.state out.new)) (final result) }
     ensures goes { Goes (change (H.state host.old) (H.state host.new)) (files_of (order_in command.now)) (final result) }
+    ensures without { StaysWithout (change (H.state host.old) (H.state host.new)) (files_of (order_in command.now)) }
     ensures same_files { (H.state host.new).files ≡ (H.state host.old).files }
     ensures stays_sound { IsTrue (H.state host.old).is_sound → IsTrue (H.state host.new).is_sound }
 {
@@ -112,9 +116,16 @@ fn obey<H: Host, O: Sink, E: Sink>(
     ensures same_files { (H.state host.new).files ≡ (H.state host.old).files }
     ensures stays_sound { IsTrue (H.state host.old).is_sound → IsTrue (H.state host.new).is_sound }
 {
-    let Some(command) = read_words(words) else {
-        report_usage(err);
-        return Status::Usage;
+    let command = match read_words(alloc, words) {
+        Ok(command) => command,
+        Err(WordsFault::Usage) => {
+            report_usage(err);
+            return Status::Usage;
+        }
+        Err(WordsFault::NoMemory) => {
+            report(err, Refusal::OutOfMemory);
+            return Status::NoMemory;
+        }
     };
     match fulfil(alloc, &command, host, out) {
         Ok(status) => status,
@@ -125,14 +136,16 @@ fn obey<H: Host, O: Sink, E: Sink>(
     }
 }
 
-/// Does what the words behind the program's name ask for, and answers how the program ends. `run IMAGE --cycles N`
-/// reads the image from the host, 16,777,216 bytes at most, runs it from address 0 for N cycles, at most 4,000,000, or up
-/// to an instruction that breaks the update discipline, and writes the text of the run to out. `--dump A:L` behind it adds
-/// the L bytes of RAM from real address A on, as the run leaves them: at least one byte and at most 65,536, all of them in
-/// RAM. `--script FILE` behind both has a script read from the host behind the image, 1,048,576 bytes at most, whose bytes
-/// arrive at the UART; without it none does. `asm SOURCE` reads the source from the host, 4,194,304 bytes at most, and
-/// writes the bytes of its image to out. `dis IMAGE` reads the image as `run` does, and writes the text of its disassembly
-/// to out. Reading stops one byte past the file's limit. The status is `Offence` where the run ended with one, and `Done`
+/// Does what the words behind the program's name ask for, and answers how the program ends. The first word is the command;
+/// behind it names and options stand in any order, an option as `--x v` or `--x=v`. `run IMAGE --cycles N` reads the image
+/// from the host, 16,777,216 bytes at most, runs it from address 0 for N cycles, at most 4,000,000, or up to an instruction
+/// that breaks the update discipline, and writes the text of the run to out. `--dump A:L` adds the L bytes of RAM from real
+/// address A on, as the run leaves them: at least one byte and at most 65,536, all of them in RAM. `--script FILE` has a
+/// script read from the host behind the image, 1,048,576 bytes at most, whose bytes arrive at the UART; without it none
+/// does. `asm SOURCE` reads the source from the host, 4,194,304 bytes at most, and writes the bytes of its image to out.
+/// `dis IMAGE` reads the image as `run` does, and writes the text of its disassembly to out. `gen SEED --cycles N` opens no
+/// file: it runs the image that is made from the seed, and writes a summary of the run to out. Reading stops one byte past
+/// the file's limit. The status is `Offence` where the run ended with one, and `Done`
 /// where it reached N. Both leave err as it was, and any other status writes its line there, or a front of it where a
 /// write to err fails; the status stays what it is. Out takes nothing under another status, but for `WriteFault` and
 /// `NoMemory`, which may leave a front of the text or of the image, and never all of it.

@@ -81,13 +81,16 @@ fn write_one<S: Sink>(sink: &mut S, piece: &[u8])
     write_piece(sink, piece);
 }
 
-/// Writes to err the line `mw: usage`. Where a write fails, err keeps a front of the line.
+/// Writes to err the line `mw: usage: ` with the commands and their words. Where a write fails, err keeps a front of the line.
 pub fn report_usage<S: Sink>(err: &mut S)
     ensures took { TookUnlessFault (change (S.state err.old) (S.state err.new)) usage_line }
     ensures faults { (S.state err.old).faults ≤ (S.state err.new).faults }
     ensures wants { (S.state err.old).wants ≤ (S.state err.new).wants }
 {
-    write_one(err, b"mw: usage\n");
+    write_one(
+        err,
+        b"mw: usage: mw run IMAGE --cycles N [--script FILE] [--dump A:L] | asm SOURCE | dis IMAGE | gen SEED --cycles N\n",
+    );
 }
 
 /// Writes to err the line of a refused source or script: its name and the refused place, as far as the sink takes it.

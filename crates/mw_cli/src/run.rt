@@ -1,7 +1,9 @@
 ghost use Rattle.std.specs.Prelude.{◌≡◌, ◌+◌, ◌≤◌, length, IfOk, IfErr, IfSome, IsTrue};
 ghost use Rattle.mw_bus.specs.Memory.{ram_size};
 ghost use Rattle.mw_isa.specs.Reading.{end_of};
-ghost use Rattle.mw_cli.specs.Command.{Run, run_in, files_of, IsInRam};
+ghost use Rattle.mw_words.specs.Grammar.{Run};
+ghost use Rattle.mw_words.specs.Commands.{run_in, IsInRam};
+ghost use Rattle.mw_cli.specs.Files.{files_of};
 ghost use Rattle.mw_cli.specs.Headline.{run_of, SpellsRun};
 ghost use Rattle.mw_io.specs.Outside.{Counts};
 ghost use Rattle.mw_cli.specs.declared.status.Status.TheVariants.{ReadFault};
@@ -9,7 +11,6 @@ ghost use Rattle.mw_cli.specs.Outside.{change};
 ghost use Rattle.mw_cli.specs.Answers.{Gives, Goes};
 ghost use Rattle.mw_cli.specs.Stages.{ending, IsRunRefusal, GivesNothing, IsStart};
 
-use crate::command::RunCommand;
 use crate::product::Product;
 use crate::refusal::Refusal;
 use crate::script::script_of_file;
@@ -19,6 +20,7 @@ use mw_io::Host;
 use mw_isa::Span;
 use mw_trace::print;
 use mw_uart::Script;
+use mw_words::RunCommand;
 use std::alloc::Global;
 
 /// What the board is started with.
@@ -76,7 +78,7 @@ fn read_start<'a, H: Host>(
         Ok(image) => image,
         Err(refusal) => return Err(refusal),
     };
-    match command.more.script {
+    match command.script {
         None => Ok(Start {
             image,
             script: Script::new(alloc),
@@ -95,9 +97,8 @@ pub fn run<'a, H: Host>(
     host: &mut H,
 ) -> Result<Product, Refusal<'a>>
     requires few { command.now.cycles ≤ 4000000 }
-    requires room { IsInRam command.now.more }
-    ensures gives { IfOk result (λ product. Gives (change (H.state host.old) (H.state host.new)) (Run (run_in command.now)) product.bytes) }
-    ensures end { IfOk result (λ product. product.end ≡ end_of product.bytes) }
+    requires room { IsInRam command.now.dump }
+    ensures gives { IfOk result (λ product. Gives (change (H.state host.old) (H.state host.new)) (Run (run_in command.now)) product.bytes product.end) }
     ensures refused { IfErr result (GivesNothing (change (H.state host.old) (H.state host.new)) (Run (run_in command.now))) }
     ensures faults { Counts (H.state host.old).faults (H.state host.new).faults (ending result ≡ ReadFault) }
     ensures goes { Goes (change (H.state host.old) (H.state host.new)) (files_of (Run (run_in command.now))) (ending result) }
@@ -113,6 +114,6 @@ pub fn run<'a, H: Host>(
         start.image.as_slice(),
         &start.script,
         command.cycles,
-        command.more.dump,
+        command.dump,
     )
 }

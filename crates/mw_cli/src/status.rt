@@ -6,14 +6,14 @@ use mw_isa::End;
 /// How the program ends. `number` has the numbers.
 #[derive(Clone, Copy, Debug, PartialEq, Eq)]
 pub enum Status {
-    /// What the words ask for is done: the text of the run or of the disassembly, or the
+    /// What the words ask for is done: the text of the run or of the disassembly, the summary of the run from a seed, or the
     /// image of the source, is written. A run reached its number of cycles. Err took nothing.
     Done,
     /// The run ended before an instruction that breaks the update discipline, and its text is written, which says so.
     /// Err took nothing.
     Offence,
-    /// The words aren't `run IMAGE --cycles N`, with `--dump A:L` and then `--script FILE` behind it or without, `asm SOURCE`
-    /// or `dis IMAGE`.
+    /// The words aren't those of a command: `run IMAGE --cycles N`, with `--script FILE` and `--dump A:L` or without, `asm
+    /// SOURCE`, `dis IMAGE` or `gen SEED --cycles N`, in any order behind the command's word.
     Usage,
     /// A call of the host failed, as at a name that isn't among its files.
     ReadFault,

@@ -11,3 +11,5 @@ mod refusals;
 mod scripts;
 #[cfg(test)]
 mod shared;
+#[cfg(test)]
+mod words;

@@ -7,31 +7,7 @@ use std::test::Fail;
 struct Refused(&'static str, &'static [u8], Status, &'static str);
 
 #[rattlefmt::skip]
-static REFUSED: [Refused; 28] = [
-    Refused("", LOOP, Status::Usage, "mw: usage\n"),
-    Refused("run", LOOP, Status::Usage, "mw: usage\n"),
-    Refused("run img", LOOP, Status::Usage, "mw: usage\n"),
-    Refused("run img --cycles", LOOP, Status::Usage, "mw: usage\n"),
-    Refused("run img --cycles 3 3", LOOP, Status::Usage, "mw: usage\n"),
-    Refused("run img --dump 0:8", LOOP, Status::Usage, "mw: usage\n"),
-    Refused("run img --dump 0:8 --cycles 3", LOOP, Status::Usage, "mw: usage\n"),
-    Refused("run img --cycles 03 --dump 0:8", LOOP, Status::Usage, "mw: usage\n"),
-    Refused("run img --cycles=3", LOOP, Status::Usage, "mw: usage\n"),
-    Refused("run img --cycle 3", LOOP, Status::Usage, "mw: usage\n"),
-    Refused("Run img --cycles 3", LOOP, Status::Usage, "mw: usage\n"),
-    Refused("run  --cycles 3", LOOP, Status::Usage, "mw: usage\n"),
-    Refused("run -img --cycles 3", LOOP, Status::Usage, "mw: usage\n"),
-    Refused("run img --cycles ", LOOP, Status::Usage, "mw: usage\n"),
-    Refused("run img --cycles 05", LOOP, Status::Usage, "mw: usage\n"),
-    Refused("run img --cycles 00", LOOP, Status::Usage, "mw: usage\n"),
-    Refused("run img --cycles +5", LOOP, Status::Usage, "mw: usage\n"),
-    Refused("run img --cycles -5", LOOP, Status::Usage, "mw: usage\n"),
-    Refused("run img --cycles 0x5", LOOP, Status::Usage, "mw: usage\n"),
-    Refused("run img --cycles 4000001", LOOP, Status::Usage, "mw: usage\n"),
-    Refused("run img --cycles 18446744073709551617", LOOP, Status::Usage, "mw: usage\n"),
-    Refused("asm", b"", Status::Usage, "mw: usage\n"),
-    Refused("asm img img", b"", Status::Usage, "mw: usage\n"),
-    Refused("asm -img", b"", Status::Usage, "mw: usage\n"),
+static REFUSED: [Refused; 4] = [
     Refused("run absent --cycles 3", LOOP, Status::ReadFault, "mw: cannot read absent\n"),
     Refused("asm absent", b"", Status::ReadFault, "mw: cannot read absent\n"),
     Refused("dis absent", LOOP, Status::ReadFault, "mw: cannot read absent\n"),
@@ -61,17 +37,13 @@ fn a_file_of_the_system_is_absent(rt: HostRuntime) -> Result<(), Fail> {
     let mut host = RealHost::new(&rt);
     let mut out = SureSink::new(alloc);
     let mut err = SureSink::new(alloc);
-    assert_eq!(rt;
-        mw_main(alloc, &[], &mut host, &mut out, &mut err),
-        Status::Usage
-    );
     let words = words_of(alloc, "run /no/such/image --cycles 3")?;
     let status = mw_main(alloc, words.as_slice(), &mut host, &mut out, &mut err);
     assert_eq!(rt; status, Status::ReadFault);
     assert_eq!(rt; out.as_slice(), b"".as_slice());
     assert_eq!(rt;
         err.as_slice(),
-        b"mw: usage\nmw: cannot read /no/such/image\n".as_slice()
+        b"mw: cannot read /no/such/image\n".as_slice()
     );
     Ok(())
 }

@@ -19,22 +19,11 @@ struct Refused(
 );
 
 #[rattlefmt::skip]
-static REFUSED: [Refused; 15] = [
-    Refused("run img --cycles 3 --script s --dump 0:8", LOOP, GOOD, Status::Usage, "mw: usage\n"),
-    Refused("run img --script s --cycles 3", LOOP, GOOD, Status::Usage, "mw: usage\n"),
-    Refused("run img --cycles 3 --script s --script s", LOOP, GOOD, Status::Usage, "mw: usage\n"),
-    Refused("run img --cycles 3 --script", LOOP, GOOD, Status::Usage, "mw: usage\n"),
-    Refused("run img --cycles 3 --script ", LOOP, GOOD, Status::Usage, "mw: usage\n"),
-    Refused("run img --cycles 3 --script -s", LOOP, GOOD, Status::Usage, "mw: usage\n"),
-    Refused("run img --cycles 3 --script=s", LOOP, GOOD, Status::Usage, "mw: usage\n"),
-    Refused("run img --cycles 3 --dump 0:8 --script -s", LOOP, GOOD, Status::Usage, "mw: usage\n"),
-    Refused("run img --cycles 3 --dump 0:8 --Script s", LOOP, GOOD, Status::Usage, "mw: usage\n"),
-    Refused("run img --cycles 3 --dump 0 --script s", LOOP, GOOD, Status::Usage, "mw: usage\n"),
+static REFUSED: [Refused; 4] = [
     Refused("run img --cycles 3 --script absent", LOOP, GOOD, Status::ReadFault, "mw: cannot read absent\n"),
     Refused("run gone --cycles 3 --script absent", LOOP, GOOD, Status::ReadFault, "mw: cannot read gone\n"),
     Refused("run img --cycles 3 --script s", LOOP, b"5 4", Status::BadInput, "mw: s:1:4: bad input\n"),
     Refused("run img --cycles 3 --dump 0:8 --script s", LOOP, FALLING, Status::BadInput, "mw: s:2:1: bad input\n"),
-    Refused("asm img --script s", b"", GOOD, Status::Usage, "mw: usage\n"),
 ];
 
 #[test]

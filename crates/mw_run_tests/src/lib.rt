@@ -12,6 +12,8 @@ mod runs;
 #[cfg(test)]
 mod scripts;
 #[cfg(test)]
+mod seeds;
+#[cfg(test)]
 mod shared;
 #[cfg(test)]
 mod traps;

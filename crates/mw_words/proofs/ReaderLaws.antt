@@ -61,9 +61,10 @@ given_is : (verb : Verb) (key : Key) (value : List ℕ) (rows : List Row) (said 
     → (Holds (settled_rows (rules verb) (pend (given key value)) rows) next) × (settle_passes (rules verb) (shape verb).args_override_self (held rows (given key value)) ≡ true)
 given_is verb key value rows said next taken h e =
     let u = used_is verb key value rows said next h e in
-    let rule = rule-by-id verb key taken in
-    (subst (λ r. Holds (used_by_id r (value ∷ []) rows) next) (sym rule) u.0,
-    ap₂ (λ r again. option_map_or (λ a. use_passes again a (value ∷ []) rows) r true) rule (once verb) ∙ u.1)
+    let rule = rule-by-id verb key taken in (
+      subst (λ r. Holds (used_by_id r (value ∷ []) rows) next) (sym rule) u.0,
+      ap₂ (λ r again. option_map_or (λ a. use_passes again a (value ∷ []) rows) r true) rule (once verb) ∙ u.1,
+    )
 
 -- what is said with a name or a value, when nothing is awaited any more
 now_by : (o : Option Said) (r : Reading) → option_map idle o ≡ Some r → (said : Said) × (o ≡ Some said) × (r ≡ idle said)
@@ -96,45 +97,54 @@ name_goes verb said after w word r name e =
     let new = said-new Name word said after e in
     let at : w ≡ stands r.rows r.left 1 = r.is ∙ ap (λ p. stands r.rows r.left p) (r.first new.0) in
     let g = given_is verb Name word (settled_rows (rules verb) (pend r.left) r.rows) said after refl r.holds e in
-    subst (λ (v : Walk). Goes verb None after v word) (sym at) (name-turn (shape verb) word r.rows r.left n (rule-by-index verb) r.passes, record {
-      rows = settled_rows (rules verb) (pend r.left) r.rows;
-      left = given Name word;
-      position = 2;
-      is = name-walk (rules verb) word r.rows r.left n (rule-by-index verb);
-      passes = g.1;
-      holds = g.0;
-      first = named_now said after word 2 e;
-    })
+    subst (λ (v : Walk). Goes verb None after v word) (sym at) (
+      name-turn (shape verb) word r.rows r.left n (rule-by-index verb) r.passes,
+      record {
+        rows = settled_rows (rules verb) (pend r.left) r.rows;
+        left = given Name word;
+        position = 2;
+        is = name-walk (rules verb) word r.rows r.left n (rule-by-index verb);
+        passes = g.1;
+        holds = g.0;
+        first = named_now said after word 2 e;
+      },
+    )
 
 -- a value that is awaited
 value_goes : (verb : Verb) (key : Key) (said after : Said) (w : Walk) (word : List ℕ) → Awaits verb key said w → is_name word ≡ true → with_said key word said ≡ Some after → Goes verb None after w word
 value_goes verb key said after w word r name e =
     let n = no-flag word name in
     let g = given_is verb key word r.rows said after r.taken r.holds e in
-    subst (λ (v : Walk). Goes verb None after v word) (sym r.is) (value-turn (shape verb) key word r.rows r.position n, record {
-      rows = r.rows;
-      left = given key word;
-      position = r.position;
-      is = value-walk (rules verb) key word r.rows r.position n (rule-by-id verb key r.taken);
-      passes = g.1;
-      holds = g.0;
-      first = λ none. r.first (sym (same_name key word said after r.named e) ∙ none);
-    })
+    subst (λ (v : Walk). Goes verb None after v word) (sym r.is) (
+      value-turn (shape verb) key word r.rows r.position n,
+      record {
+        rows = r.rows;
+        left = given key word;
+        position = r.position;
+        is = value-walk (rules verb) key word r.rows r.position n (rule-by-id verb key r.taken);
+        passes = g.1;
+        holds = g.0;
+        first = λ none. r.first (sym (same_name key word said after r.named e) ∙ none);
+      },
+    )
 
 -- an option that awaits its value
 opens_goes : (verb : Verb) (key : Key) (said : Said) (w : Walk) (word : List ℕ) → Rests verb said w → IsOption verb (before_first is_equals word) key → list_any is_equals word ≡ false → Goes verb (Some key) said w word
 opens_goes verb key said w word r o without =
     let f : IsFlag word (id_of key) None = subst (λ v. IsFlag word (id_of key) v) (ap (λ b. cond b (Some (after_first is_equals word)) None) without) (flag_at verb word key o) in
     let rule = rule-by-long verb key o.named o.taken in
-    subst (λ (v : Walk). Goes verb (Some key) said v word) (sym r.is) (flag-turn (shape verb) key word None r.rows r.left r.position f rule (opens-pass (rules verb) (shape verb).args_override_self key (held r.rows r.left) r.passes), record {
-      rows = settled_rows (rules verb) (pend r.left) r.rows;
-      position = r.position;
-      is = opens-walk (rules verb) key word r.rows r.left r.position f rule;
-      taken = o.taken;
-      named = o.named;
-      holds = r.holds;
-      first = r.first;
-    })
+    subst (λ (v : Walk). Goes verb (Some key) said v word) (sym r.is) (
+      flag-turn (shape verb) key word None r.rows r.left r.position f rule (opens-pass (rules verb) (shape verb).args_override_self key (held r.rows r.left) r.passes),
+      record {
+        rows = settled_rows (rules verb) (pend r.left) r.rows;
+        position = r.position;
+        is = opens-walk (rules verb) key word r.rows r.left r.position f rule;
+        taken = o.taken;
+        named = o.named;
+        holds = r.holds;
+        first = r.first;
+      },
+    )
 
 -- an option with its value
 whole_goes : (verb : Verb) (key : Key) (said after : Said) (w : Walk) (word value : List ℕ) → Rests verb said w → IsOption verb (before_first is_equals word) key → value_in word ≡ Some value → with_said key value said ≡ Some after → Goes verb None after w word
@@ -143,15 +153,18 @@ whole_goes verb key said after w word value r o v e =
     let rule = rule-by-long verb key o.named o.taken in
     let u = used_is verb key value (settled_rows (rules verb) (pend r.left) r.rows) said after r.holds e in
     let passes : use_passes (shape verb).args_override_self (built_rule key) (value ∷ []) (settled_rows (rules verb) (pend r.left) r.rows) ≡ true = ap (λ again. use_passes again (built_rule key) (value ∷ []) (settled_rows (rules verb) (pend r.left) r.rows)) (once verb) ∙ u.1 in
-    subst (λ (x : Walk). Goes verb None after x word) (sym r.is) (flag-turn (shape verb) key word (Some value) r.rows r.left r.position f rule (whole-pass (rules verb) (shape verb).args_override_self key value (held r.rows r.left) r.passes passes), record {
-      rows = used (built_rule key) (value ∷ []) (settled_rows (rules verb) (pend r.left) r.rows);
-      left = nothing;
-      position = r.position;
-      is = whole-walk (rules verb) key word value r.rows r.left r.position f rule;
-      passes = refl;
-      holds = u.0;
-      first = λ none. r.first (sym (same_name key value said after o.named e) ∙ none);
-    })
+    subst (λ (x : Walk). Goes verb None after x word) (sym r.is) (
+      flag-turn (shape verb) key word (Some value) r.rows r.left r.position f rule (whole-pass (rules verb) (shape verb).args_override_self key value (held r.rows r.left) r.passes passes),
+      record {
+        rows = used (built_rule key) (value ∷ []) (settled_rows (rules verb) (pend r.left) r.rows);
+        left = nothing;
+        position = r.position;
+        is = whole-walk (rules verb) key word value r.rows r.left r.position f rule;
+        passes = refl;
+        holds = u.0;
+        first = λ none. r.first (sym (same_name key value said after o.named e) ∙ none);
+      },
+    )
 
 -- the walk goes on as the words are read
 abbrev pub GoesOn : Verb → Reading → Walk → List ℕ → Type 0

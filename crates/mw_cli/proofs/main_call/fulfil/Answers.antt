@@ -1,5 +1,6 @@
 use Rattle.std.proofs.Common.{List, ℕ, refl, ap, ◌∙◌, subst}
-use Rattle.mw_cli.specs.Command.{order_in, files_of}
+use Rattle.mw_words.specs.Commands.{order_in}
+use Rattle.mw_cli.specs.Files.{files_of}
 use Rattle.mw_cli.specs.Numbers.{ended}
 use Rattle.mw_cli.specs.Outside.{change, Took}
 use Rattle.mw_cli.proofs.VerdictLemmas.{stayed}
@@ -17,7 +18,7 @@ returns-in-Err-clause-faults g c =
 
 pub returns-in-Ok-write_out-clause-written : goal.returns-in-Ok-write_out-clause-written
 returns-in-Ok-write_out-clause-written g c =
-    (c.in-Ok.product.bytes, c.in-Ok.ensures.gives, subst (λ (bytes : List ℕ). Took (change (g.S.Sink.state c.args.out.now) (g.S.Sink.state c.write_out.new.out)) bytes) c.as_slice.ensures c.in-Ok-write_out.ensures.took, c.ended.ensures ∙ ap ended c.in-Ok.ensures.end)
+    (c.in-Ok.product.bytes, c.in-Ok.product.end, c.in-Ok.ensures.gives, subst (λ (bytes : List ℕ). Took (change (g.S.Sink.state c.args.out.now) (g.S.Sink.state c.write_out.new.out)) bytes) c.as_slice.ensures c.in-Ok-write_out.ensures.took, c.ended.ensures)
 
 pub returns-in-Ok-write_out-clause-faults : goal.returns-in-Ok-write_out-clause-faults
 returns-in-Ok-write_out-clause-faults g c =

@@ -1,7 +1,7 @@
 use Rattle.std.proofs.Common.{ℕ, List, Option, option_map, ap}
 use denote.Ref.{Bor}
 use Rattle.mw_bus.specs.Memory.{ram_size}
-use Rattle.mw_cli.specs.Command.{run_in}
+use Rattle.mw_words.specs.Commands.{run_in}
 use Rattle.mw_cli.specs.Numbers.{status_of}
 use Rattle.mw_cli.specs.declared.status.Status.TheVariants.{Done}
 use Rattle.mw_cli.specs.Outside.{change}
