@@ -46,32 +46,34 @@ fn image_of_seed_0_has_its_bytes(rt: HostRuntime) -> Result<(), Fail> {
 #[test]
 fn start_of_seed_0_is_printed(rt: HostRuntime) -> Result<(), Fail> {
     let image = generate(rt.alloc(), 0)?;
-    let text = disassemble(rt.alloc(), &image.as_slice()[..84])?;
+    let start = image.as_slice().get(..84).expect(&rt, "a start");
+    let text = disassemble(rt.alloc(), start)?;
     assert!(rt; text.as_slice() == START.as_bytes());
     Ok(())
 }
 
-#[test]
-fn pages_of_seed_0_are_turned_by_seven(rt: HostRuntime) -> Result<(), Fail> {
-    let image = generate(rt.alloc(), 0)?;
-    let bytes = image.as_slice();
-    let page_64: [u8; 8] = [0xc0, 0, 0, 0, 0, 0x04, 0x71, 0x87];
-    let page_65: [u8; 8] = [0xc0, 0, 0, 0, 0, 0x04, 0x01, 0x87];
-    assert_eq!(rt; &bytes[0x3_2200..0x3_2208], page_64.as_slice());
-    assert_eq!(rt; &bytes[0x3_2208..0x3_2210], page_65.as_slice());
-    Ok(())
-}
+/// Bytes from a place to another.
+struct Part(usize, usize, &'static [u8]);
+
+#[rattlefmt::skip]
+static PARTS: [Part; 6] = [
+    // The entry of process 1.
+    Part(0x1_0010, 0x1_0018, b"\x40\0\0\0\0\x02\0\xad"),
+    // Pages 63, 64 and 65: pages 64 to 71 are turned by seven.
+    Part(0x3_21f8, 0x3_2200, b"\xc0\0\0\0\0\x03\xf1\x87"),
+    Part(0x3_2200, 0x3_2208, b"\xc0\0\0\0\0\x04\x71\x87"),
+    Part(0x3_2208, 0x3_2210, b"\xc0\0\0\0\0\x04\x01\x87"),
+    // Both ends of the program.
+    Part(0x10_0000, 0x10_000c, b"\x34\x69\x43\x91\x23\x59\x2a\x39\x8d\xf5\xaf\x39"),
+    Part(0x17_fffc, 0x18_0000, b"\x04\0\xf8\x4b"),
+];
 
 #[test]
-fn program_of_seed_0_begins_and_ends(rt: HostRuntime) -> Result<(), Fail> {
+fn parts_of_seed_0_stand_at_their_places(rt: HostRuntime) -> Result<(), Fail> {
     let image = generate(rt.alloc(), 0)?;
-    let bytes = image.as_slice();
-    let first: [u8; 12] = [
-        0x34, 0x69, 0x43, 0x91, 0x23, 0x59, 0x2a, 0x39, 0x8d, 0xf5, 0xaf, 0x39,
-    ];
-    let last: [u8; 4] = [0x04, 0x00, 0xf8, 0x4b];
-    assert_eq!(rt; &bytes[0x10_0000..0x10_000c], first.as_slice());
-    assert_eq!(rt; &bytes[0x17_fffc..], last.as_slice());
+    for Part(from, to, want) in &PARTS {
+        assert_eq!(rt; image.as_slice().get(*from..*to), Some(*want), "{from}");
+    }
     Ok(())
 }
 

@@ -1,4 +1,5 @@
-//! The tests of the assembler and the disassembler, and of a line of source by itself, over their public calls.
+//! The tests of the assembler and the disassembler, of a line of source by itself and of generated images, over their
+//! public calls.
 #![tactic(auto)]
 
 #[cfg(test)]

@@ -1,4 +1,4 @@
--- The rows of the instructions that are drawn and of those around them: their names, and that they take their operands.
+-- The rows of the instructions of an image: their names, and that their operands are in range.
 use Rattle.std.proofs.Common.{◌≡◌, FitsSigned, ℕ, zero, suc, ◌-◌, ◌*◌, ◌<◌, ◌≤◌, false, List, slice_get, Option, Some, None, IsSomeAnd, ℤ, pos, negsuc, neg_ℤ, ◌-ℤ◌, ◌≤ℤ◌, ◌<ℤ◌, refl, sym, ap, subst, ◌∙◌, arith}
 use Rattle.std.specs.Prelude.{codes}
 use Rattle.std.specs.Int.{w16}
@@ -99,6 +99,7 @@ back-InRange (suc k) most =
     let same : neg_ℤ (pos (4 * suc k)) ≡ pos ((16777216 - suc k) * 4) -ℤ pos 67108864 = omega (arith, ints) in
     (16777216 - suc k, wide, same ∙ sym (signed_of-high 26 ((16777216 - suc k) * 4) high))
 
+-- the rows, each at its place
 pub addi-row : IsRow (codes "addi") 0 DRtRaSi
 unfolding row_named row_rules table layouts lines
 addi-row = record { named = refl; there = tt; laid = refl; rule = refl }

@@ -26,21 +26,23 @@ image_size = 0x18_0000
 abbrev pub handler_at : ℕ
 handler_at = 0x900
 
--- where the leaves stand, 8 bytes each in the order of pages, and how many there are
+-- where the leaves stand, 8 bytes each in the order of pages
 abbrev pub leaves_at : ℕ
 leaves_at = 0x3_2000
 
+-- there are so many leaves
 abbrev pub leaf_count : ℕ
 leaf_count = 512
 
--- where the program stands, and how many drawn instructions it has
+-- where the program stands
 abbrev pub program_at : ℕ
 program_at = 0x10_0000
 
+-- it has so many drawn instructions
 abbrev pub program_length : ℕ
 program_length = 131071
 
--- the start before its draws: the process is 1, the process table stands at 0x10000, register 3 points to the data, and rfid is to go to the program with translation and external interrupts on
+-- the start before its draws: PID 1, the process table at 0x10000, register 3 at the data, SRR0 at the program, SRR1 with translation and external interrupts on
 abbrev pub setup : List ℕ
 setup =
     li 3 (pos 1) ∷ mtspr 48 3 ∷ lis 3 (pos 1) ∷ mtspr 720 3 ∷ lis 3 (pos 4) ∷ lis 4 (pos 16) ∷ mtspr 26 4
@@ -55,7 +57,7 @@ abbrev pub loads : ℕ → ℕ → ℕ → List ℕ
 loads zero rt x = []
 loads (suc n) rt x = load rt x ∷ loads n (rt + 1) (next_number x)
 
--- the decrementer is set to a period, and rfid returns
+-- the decrementer is set to a period, and rfid goes to where SRR0 is
 abbrev pub return : ℕ → List ℕ
 return period = li 6 (pos period) ∷ mtspr 22 6 ∷ word (codes "rfid") [] ∷ []
 
@@ -129,7 +131,7 @@ turn_of seed = draw 1 8 seed
 abbrev pub period_of : ℕ → ℕ
 period_of seed = 1000 + draw 2 1000 seed
 
--- what lies over so many zeros, from the start on: the handler, the tables, the leaves and the program
+-- what lies over so many zeros, the first laid innermost: the start, the handler, the tables, the leaves and the program
 unfoldable pub image_over : ℕ → ℕ → List ℕ
 image_over size seed =
     with_words program_at (program program_length (number_behind 10 seed))

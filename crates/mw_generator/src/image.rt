@@ -16,10 +16,12 @@ const HANDLER: usize = 0x900;
 
 /// Where the leaves of the radix tree stand, in order of pages, and how many there are.
 const LEAVES: usize = 0x3_2000;
+
 const PAGES: usize = 512;
 
 /// Where the program stands, and how many instructions it has before its branch back.
 const PROGRAM: usize = 0x10_0000;
+
 const LENGTH: usize = 131_071;
 
 /// The words of the start before its draws.
@@ -196,7 +198,7 @@ fn lay_program(image: &mut Bytes, draws: &mut Draws, at: usize, count: usize)
     lay_word(image, next, back());
 }
 
-/// The image of a seed, over so many zeros.
+/// What a seed generates, over so many zeros.
 #[tactic(auto, unfolding(crate::specs::Generated::image_over))]
 fn image_over(alloc: Global, size: usize, seed: u64) -> Result<Bytes, NoMemory>
     requires { image_size ≤ size }
@@ -215,7 +217,15 @@ fn image_over(alloc: Global, size: usize, seed: u64) -> Result<Bytes, NoMemory>
     Ok(image)
 }
 
-/// The image of a seed.
+/// The image that a seed generates, of 1,572,864 bytes from address 0 on; every seed has one, and always the same.
+///
+/// At 0 stands a start that sets the registers and goes to the program, and at 0x900 a handler of the decrementer's
+/// interrupt (Book III, interrupt vectors). From 0x10000 on stand the tables of radix translation of process 1, the most
+/// significant byte of each doubleword first, with a leaf for each of its first 512 pages of 4 KiB (Book III, radix
+/// trees). At 0x100000 stand 131,071 drawn instructions and a branch back to the first (Book I, instruction formats), the
+/// least significant byte of each word first. All else is 0.
+///
+/// Memory is taken once, for the image. The only error is want of it.
 #[tactic(auto, unfolding(crate::specs::Generated::generated))]
 pub fn generate(alloc: Global, seed: u64) -> Result<Bytes, NoMemory>
     ensures image { IfOk result (λ image. image ≡ generated seed) }

@@ -1,5 +1,5 @@
-//! Images that a seed generates: a start, a handler of the decrementer, a radix tree and a long program of drawn
-//! instructions, for runs that are too long to write by hand.
+//! Images that a seed generates, for runs that are too long to write by hand: a start, a handler of the decrementer,
+//! tables of radix translation and a long program of drawn instructions.
 #![tactic(auto)]
 
 mod draws;

@@ -9,18 +9,31 @@ use mw_decode::{Insn, encode};
 
 // Places of rows in the table of instructions; the lemmas of the words below say that they have these names.
 const ADDI: u16 = 0;
+
 const ADDIS: u16 = 1;
+
 const ORI: u16 = 10;
+
 const B: u16 = 17;
+
 const ADD: u16 = 43;
+
 const MULLD: u16 = 55;
+
 const DIVD: u16 = 60;
+
 const XOR: u16 = 77;
+
 const STW: u16 = 133;
+
 const LD: u16 = 143;
+
 const STD: u16 = 146;
+
 const RFID: u16 = 197;
+
 const MFMSR: u16 = 203;
+
 const MTSPR: u16 = 209;
 
 /// A register as an operand.

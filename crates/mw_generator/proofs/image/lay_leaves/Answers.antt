@@ -11,7 +11,7 @@ loop-page-preserved c =
     record {
       whole = c.lay_doubleword.ensures.whole ∙ c.loop-page.invariant.whole;
       same =
-        ap (with_leaves (c.args.pages - (page + 1)) c.args.turn (page + 1)) (c.lay_doubleword.ensures.image ∙ ap (λ d. with_doubleword (leaves_at + 8 * page) d c.loop-page.image) c.leaf.ensures)
-        ∙ sym (with_leaves-next (c.args.pages - (page + 1)) (c.args.pages - page) c.args.turn page c.loop-page.image left)
-        ∙ c.loop-page.invariant.same;
+          ap (with_leaves (c.args.pages - (page + 1)) c.args.turn (page + 1)) (c.lay_doubleword.ensures.image ∙ ap (λ d. with_doubleword (leaves_at + 8 * page) d c.loop-page.image) c.leaf.ensures)
+          ∙ sym (with_leaves-next (c.args.pages - (page + 1)) (c.args.pages - page) c.args.turn page c.loop-page.image left)
+          ∙ c.loop-page.invariant.same;
     }

@@ -12,10 +12,10 @@ loop-done-preserved c =
       place = omega (arith, c.loop-done.invariant.place);
       whole = c.lay_word.ensures.whole ∙ c.loop-done.invariant.whole;
       same =
-        ap (λ x. with_words (at + 4) (program (c.args.count - (c.loop-done.done + 1)) x) c.lay_word.new.image) c.drawn_word-word.ensures.number
-        ∙ ap (with_words (at + 4) (program (c.args.count - (c.loop-done.done + 1)) _)) (c.lay_word.ensures.image ∙ ap (λ w. with_word at w c.loop-done.image) c.drawn_word-word.ensures.word)
-        ∙ sym (program-next (c.args.count - (c.loop-done.done + 1)) (c.args.count - c.loop-done.done) at c.loop-done.draws c.loop-done.image left)
-        ∙ c.loop-done.invariant.same;
+          ap (λ x. with_words (at + 4) (program (c.args.count - (c.loop-done.done + 1)) x) c.lay_word.new.image) c.drawn_word-word.ensures.number
+          ∙ ap (with_words (at + 4) (program (c.args.count - (c.loop-done.done + 1)) _)) (c.lay_word.ensures.image ∙ ap (λ w. with_word at w c.loop-done.image) c.drawn_word-word.ensures.word)
+          ∙ sym (program-next (c.args.count - (c.loop-done.done + 1)) (c.args.count - c.loop-done.done) at c.loop-done.draws c.loop-done.image left)
+          ∙ c.loop-done.invariant.same;
     }
 
 -- behind the last instruction the branch back is all that was left
