@@ -7,7 +7,8 @@ pub const LOOP: &[u8] = b"\x05\x00\x60\x38\x00\x00\x00\x48";
 pub const PREFIXED: &[u8] = b"\x00\x00\x12\x06\x00\x00\x60\x38\x00\x00\x00\x48";
 
 /// The line of words that are in no command's grammar.
-pub const USAGE: &str = "mw: usage: mw run IMAGE --cycles N [--script FILE] [--dump A:L] | asm SOURCE | dis IMAGE | gen SEED --cycles N\n";
+pub const USAGE: &str =
+    "mw: usage: mw run IMAGE --cycles N [--script FILE] [--dump A:L] | asm SOURCE | dis IMAGE | gen SEED --cycles N\n";
 
 /// The words between separators.
 pub fn words_by(alloc: Global, line: &str, separator: char) -> Result<Vec<String>, AllocError> {

@@ -14,9 +14,10 @@ returns-in-Err-NoMemory-clause-goes_through g c =
 
 pub returns-in-Ok-fulfil-clause-goes_through : goal.returns-in-Ok-fulfil-clause-goes_through
 returns-in-Ok-fulfil-clause-goes_through g c =
-    let host = change (g.H.Host.state c.args.host.now) (g.H.Host.state c.fulfil.new.host) in
-    (goes-by host (map string_bytes c.args.words.now) (order_in c.in-Ok.command) c.in-Ok-fulfil.status c.in-Ok-fulfil.status c.in-Ok.ensures.value refl c.in-Ok-fulfil.ensures.goes,
-    stays-by host (map string_bytes c.args.words.now) (order_in c.in-Ok.command) c.in-Ok.ensures.value c.in-Ok-fulfil.ensures.without)
+    let host = change (g.H.Host.state c.args.host.now) (g.H.Host.state c.fulfil.new.host) in (
+      goes-by host (map string_bytes c.args.words.now) (order_in c.in-Ok.command) c.in-Ok-fulfil.status c.in-Ok-fulfil.status c.in-Ok.ensures.value refl c.in-Ok-fulfil.ensures.goes,
+      stays-by host (map string_bytes c.args.words.now) (order_in c.in-Ok.command) c.in-Ok.ensures.value c.in-Ok-fulfil.ensures.without,
+    )
 
 pub returns-in-Ok-fulfil-clause-says : goal.returns-in-Ok-fulfil-clause-says
 returns-in-Ok-fulfil-clause-says g c =
@@ -30,9 +31,10 @@ returns-in-Ok-fulfil-clause-says g c =
 
 pub returns-in-Err-clause-goes_through : goal.returns-in-Err-clause-goes_through
 returns-in-Err-clause-goes_through g c =
-    let host = change (g.H.Host.state c.args.host.now) (g.H.Host.state c.fulfil.new.host) in
-    (goes-by host (map string_bytes c.args.words.now) (order_in c.in-Ok.command) (status_of c.in-Err.refusal) c.status_of.result c.in-Ok.ensures.value c.status_of.ensures c.in-Err.ensures.goes,
-    stays-by host (map string_bytes c.args.words.now) (order_in c.in-Ok.command) c.in-Ok.ensures.value c.in-Err.ensures.without)
+    let host = change (g.H.Host.state c.args.host.now) (g.H.Host.state c.fulfil.new.host) in (
+      goes-by host (map string_bytes c.args.words.now) (order_in c.in-Ok.command) (status_of c.in-Err.refusal) c.status_of.result c.in-Ok.ensures.value c.status_of.ensures c.in-Err.ensures.goes,
+      stays-by host (map string_bytes c.args.words.now) (order_in c.in-Ok.command) c.in-Ok.ensures.value c.in-Err.ensures.without,
+    )
 
 pub returns-in-Err-clause-says : goal.returns-in-Err-clause-says
 returns-in-Err-clause-says g c =
