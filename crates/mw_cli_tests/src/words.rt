@@ -5,6 +5,7 @@ use std::alloc::{AllocError, Global};
 use std::test::Fail;
 
 /// What a call answers, and what out and err took.
+#[derive(Drop)]
 struct Answer {
     status: Status,
     out: SureSink,
@@ -25,36 +26,31 @@ fn answer_to(alloc: Global, line: &str) -> Result<Answer, AllocError> {
     Ok(Answer { status, out, err })
 }
 
-/// Words that are in the grammar, and others that ask for the same.
+/// Words that ask for the same.
 #[rattlefmt::skip]
-static SAME: [(&str, &str); 14] = [
-    ("run|img|--cycles|5", "run|--cycles|5|img"),
-    ("run|img|--cycles|5", "run|img|--cycles=5"),
-    ("run|img|--cycles|5", "run|--cycles=5|img"),
-    ("run|img|--cycles|5|--dump|0:16", "run|--dump=0:16|img|--cycles=5"),
-    ("run|img|--cycles|5|--dump|0:16", "run|img|--dump|0:16|--cycles|5"),
-    ("run|img|--cycles|5|--script|s", "run|--script|s|--cycles|5|img"),
-    ("run|img|--cycles|5|--script|s", "run|--script=s|img|--cycles|5"),
-    ("run|img|--cycles|5|--script|s", "run|img|--cycles|5|--script=a=b:c d"),
-    ("run|img|--cycles|5|--script|s", "run|--script|a=b:c d|img|--cycles|5"),
-    ("run|img|--cycles|5|--dump|0:16|--script|s", "run|--script=s|--dump=0:16|--cycles=5|img"),
-    ("run|img|--cycles|5|--dump|0:16|--script|s", "run|--dump|0:16|img|--script|s|--cycles|5"),
-    ("gen|0|--cycles|0", "gen|--cycles|0|0"),
-    ("gen|0|--cycles|0", "gen|--cycles=0|0"),
-    ("gen|18446744073709551615|--cycles|0", "gen|--cycles=0|18446744073709551615"),
+static SAME: [&[&str]; 4] = [
+    &["run|img|--cycles|5", "run|--cycles|5|img", "run|img|--cycles=5", "run|--cycles=5|img"],
+    &["run|img|--cycles|5|--dump|0:16", "run|--dump=0:16|img|--cycles=5", "run|img|--dump|0:16|--cycles|5"],
+    &[
+        "run|img|--cycles|5|--dump|0:16|--script|s", "run|--script=s|--dump=0:16|--cycles=5|img",
+        "run|--dump|0:16|img|--script=a=b:c d|--cycles|5", "run|--script|a=b:c d|--cycles|5|--dump=0:16|img",
+    ],
+    &["gen|0|--cycles|0", "gen|--cycles|0|0"],
 ];
 
 #[test]
 fn words_stand_in_any_order(rt: HostRuntime) -> Result<(), Fail> {
     let alloc = rt.alloc();
-    for (line, other) in &SAME {
-        let first = answer_to(alloc, *line)?;
-        let second = answer_to(alloc, *other)?;
-        assert_eq!(rt; first.status, Status::Done, "{line}");
-        assert_eq!(rt; second.status, Status::Done, "{other}");
-        assert!(rt; !first.out.as_slice().is_empty(), "{line}");
-        assert!(rt; first.out.as_slice() == second.out.as_slice(), "{other}");
-        assert_eq!(rt; second.err.as_slice(), b"".as_slice(), "{other}");
+    for lines in &SAME {
+        let first = answer_to(alloc, lines[0])?;
+        assert_eq!(rt; first.status, Status::Done, "{}", lines[0]);
+        assert!(rt; !first.out.as_slice().is_empty(), "{}", lines[0]);
+        for line in &lines[1..] {
+            let answer = answer_to(alloc, *line)?;
+            assert_eq!(rt; answer.status, Status::Done, "{line}");
+            assert!(rt; answer.out.as_slice() == first.out.as_slice(), "{line}");
+            assert_eq!(rt; answer.err.as_slice(), b"".as_slice(), "{line}");
+        }
     }
     Ok(())
 }
