@@ -13,10 +13,10 @@ use Rattle.mw_words.specs.declared.verb.Verb.{Verb}
 use Rattle.mw_words.specs.declared.verb.Verb.TheVariants.{Run, Assemble, Disassemble, Generate}
 use Rattle.mw_words.specs.declared.verb.Key.{Key}
 use Rattle.mw_words.specs.declared.verb.Key.TheVariants.{Name, Cycles, Script, Dump}
-use Rattle.mw_words.specs.Grammar.{Said, Reading, idle, is_equals, is_name, now_said, if_name, option_of, option_said, other_said, said_by, unless_awaited, unsaid, with_said, word_said, all_said}
+use Rattle.mw_words.specs.Grammar.{Said, Reading, idle, is_equals, is_name, now_said, option_of, option_said, said_by, unless_awaited, unsaid, with_said, word_said, all_said}
 use Rattle.mw_words.specs.Reader.{id_of, reader_of, said_found, value_of}
 use Rattle.mw_words.proofs.RowLemmas.{Holds, built_rule, holds-more, no-row, put, said-new, used-new}
-use Rattle.mw_words.proofs.WordLemmas.{IsFlag, IsOption, NoFlag, flag-of, has, no-flag, option-of, value_in}
+use Rattle.mw_words.proofs.WordLemmas.{IsFlag, IsOption, flag-of, has, no-flag, option-of, value_in}
 use Rattle.mw_words.proofs.WalkLemmas.{Left, nothing, given, pend, held, stands, awaits, shape, rules, rule-by-id, rule-by-index, rule-by-long, once, name-walk, name-turn, value-walk, value-turn, opens-walk, opens-pass, whole-walk, whole-pass, flag-turn, use-passes}
 
 -- nothing waits: the rows, with what was given last, hold what was said

@@ -1,20 +1,17 @@
 -- The reader's walk over the words of the grammar: it takes each, and its rows hold what was said.
-use Rattle.std.proofs.Common.{◌≡◌, ℕ, Bool, true, false, not, cond, ◌||◌, ◌&&◌, List, [], ◌∷◌, ◌++◌, Option, Some, None, is_some, bytes_eq, refl, sym, ap, ap₂, subst, ◌∙◌}
-use Rattle.std.specs.Prelude.{fold, option_map, option_and_then}
+use Rattle.std.proofs.Common.{◌≡◌, ℕ, Bool, true, false, not, cond, ◌||◌, ◌&&◌, List, [], ◌∷◌, Option, Some, None, refl, ap, ap₂, ◌∙◌}
 use Rattle.std.specs.Option.{option_map_or}
-use Rattle.std.specs.List.{list_any, before_first, after_first}
-use Rattle.clap.specs.Lexer.{long_of, short_of}
-use Rattle.clap.specs.Walk.{Held, Row, Rule, Step, Text, Waiting, Walk, after_flag, after_step, arg_by_id, arg_by_index, arg_by_long, has_row, idle as resting, is_pending, long_met, long_word, next, settled, takes_several, long_or_other, nothing_held, option as waiting_for, option_word, plain_word, settled_rows, short_or_plain, subcommand_or_other, to_positional, trailing, used, used_by_id, walk_from, walked, with_default, word_met}
-use Rattle.clap.specs.Takes.{bundle_passes, flag_word_passes, long_passes, other_passes, positional_passes, settle_passes, step_passes, takes, turn_passes, use_passes, values_pass, walk_passes, word_passes}
-use Rattle.clap.specs.Simple.{Shape, built, matches_of}
+use Rattle.clap.specs.Lexer.{long_of}
+use Rattle.clap.specs.Walk.{Held, Row, Rule, Text, Waiting, Walk, after_flag, after_step, arg_by_id, arg_by_index, arg_by_long, has_row, idle as resting, is_pending, long_met, long_word, next, settled, takes_several, long_or_other, option as waiting_for, option_word, plain_word, settled_rows, short_or_plain, subcommand_or_other, to_positional, trailing, used, walked}
+use Rattle.clap.specs.Takes.{bundle_passes, flag_word_passes, long_passes, other_passes, positional_passes, settle_passes, step_passes, turn_passes, use_passes, values_pass}
+use Rattle.clap.specs.Simple.{Shape, built}
 use Rattle.mw_words.specs.declared.verb.Verb.{Verb}
 use Rattle.mw_words.specs.declared.verb.Verb.TheVariants.{Run, Assemble, Disassemble, Generate}
 use Rattle.mw_words.specs.declared.verb.Key.{Key}
 use Rattle.mw_words.specs.declared.verb.Key.TheVariants.{Name, Cycles, Script, Dump}
-use Rattle.mw_words.specs.Grammar.{Said, Reading, idle, is_equals, is_name, now_said, if_name, option_of, option_said, other_said, said_by, unsaid, with_said, word_said, all_said}
-use Rattle.mw_words.specs.Reader.{id_of, reader_of, value_of}
-use Rattle.mw_words.proofs.RowLemmas.{Holds, IsNew, built_rule, holds-more, no-row, put, row_of, said-new, used-new}
-use Rattle.mw_words.proofs.WordLemmas.{IsFlag, IsOption, NoFlag, dashes, flag-of, has, no-flag, option-of, value_in}
+use Rattle.mw_words.specs.Reader.{id_of, reader_of}
+use Rattle.mw_words.proofs.RowLemmas.{built_rule}
+use Rattle.mw_words.proofs.WordLemmas.{IsFlag, NoFlag, has}
 
 -- what the reader reads of a command, once it is built
 abbrev pub shape : Verb → Shape

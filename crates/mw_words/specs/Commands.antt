@@ -1,5 +1,5 @@
 -- The code's objects, as what they stand for.
-use Rattle.std.specs.Prelude.{ℕ, ◌+◌, ◌≤◌, List, Option, IfSome, option_map}
+use Rattle.std.specs.Prelude.{◌+◌, ◌≤◌, Option, IfSome, option_map}
 use Rattle.mw_bus.specs.Memory.{ram_size}
 use Rattle.mw_isa.specs.declared.access.Span.{Span}
 use Rattle.mw_words.specs.declared.said.Said.{Said as SaidWords}

@@ -1,10 +1,9 @@
-use Rattle.std.proofs.Common.{◌≡◌, ℕ, List, Some, map, string_bytes, sym, ap, ap₂, ◌∙◌, rules, true}
-use Rattle.clap.specs.Words.{app_of, found_of, takes}
+use Rattle.std.proofs.Common.{◌≡◌, ℕ, List, Some, map, string_bytes, sym, ap, ◌∙◌}
+use Rattle.clap.specs.Words.{found_of, takes}
 use Rattle.clap.specs.Walk.{rows_of}
 use Rattle.clap.specs.Simple.{is_simple, matches_of}
 use Rattle.mw_words.specs.Grammar.{all_said, idle, unsaid}
-use Rattle.mw_words.specs.Reader.{reader_of, said_found}
-use Rattle.mw_words.proofs.RowLemmas.{Holds}
+use Rattle.mw_words.specs.Reader.{reader_of}
 use Rattle.mw_words.proofs.ReaderLaws.{reader-simple, reader-takes, found-said, said-of}
 use Rattle.mw_words.proofs.reader.read.Goals as goal
 

@@ -1,4 +1,4 @@
-use Rattle.std.proofs.Common.{◌≡◌, ℕ, List, length, false, sym, ap, ◌∙◌, rules, arith}
+use Rattle.std.proofs.Common.{◌≡◌, ℕ, List, length, false, sym, ap, ◌∙◌, rules}
 use Rattle.std.specs.List.{position_or_len, after_first}
 use Rattle.mw_words.specs.Grammar.{option_said, is_equals}
 use Rattle.mw_words.specs.Commands.{said_in}
