@@ -1,0 +1,1 @@
+# No statement: an image without a byte.

@@ -1,0 +1,3 @@
+# A constant, and a loop.
+li r3,5
+b .

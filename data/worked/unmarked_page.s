@@ -1,0 +1,31 @@
+# A store to a page that isn't marked as changed: the handler marks it, and the store is tried again.
+li r3,1
+mtspr 48,r3                # process 1
+lis r3,1
+mtspr 720,r3               # the process table stands at 0x10000
+mfmsr r4
+ori r4,r4,16
+mtmsrd r4,0
+li r5,0x5000
+li r6,-1
+std r6,0(r5)
+b .
+.org 0x300
+lis r9,3
+ori r9,r9,0x202f
+li r10,0x86
+stb r10,0(r9)
+rfid
+
+.org 0x10010
+.be64 0x40000000000200AD   # process 1: 52 bits, root at 0x20000
+.org 0x20000
+.be64 0x8000000000030009   # root
+.org 0x30000
+.be64 0x8000000000031009   # second level
+.org 0x31000
+.be64 0x8000000000032009   # third level
+.org 0x32000
+.be64 0xC000000000000187   # page 0: read, write, execute
+.org 0x32028
+.be64 0xC000000000005106   # page 5, at 0x5000

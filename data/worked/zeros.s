@@ -1,0 +1,2 @@
+# As many zeros as RAM has.
+.org 16777216
