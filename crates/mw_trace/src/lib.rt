@@ -3,9 +3,11 @@
 #![tactic(auto)]
 
 mod dump;
+mod event_line;
 mod laws;
 mod lines;
 mod numerals;
+mod piece;
 mod reading;
 mod registers;
 mod summaries;
@@ -13,6 +15,7 @@ mod text;
 mod words;
 
 pub use laws::{lines_read, texts_spell};
+pub use piece::{EVENTS_AT_ONCE, events_fit, print_behind, set_lines};
 pub use reading::{BadLine, read};
 pub use summaries::summary;
 pub use text::{end_line, event_lines, print};

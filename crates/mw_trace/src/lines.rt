@@ -1,80 +1,26 @@
-ghost use Rattle.std.specs.Prelude.{◌≡◌, ◌^◌, ◌<◌, [], ◌∷◌, ◌++◌, decimal, All, OnOk};
+ghost use Rattle.std.specs.Prelude.{◌≡◌, ◌^◌, ◌<◌, ◌∷◌, ◌++◌, All, OnOk};
 ghost use Rattle.std.specs.List.{join_with_byte};
-ghost use Rattle.std.specs.Option.{option_map_or};
 ghost use Rattle.mw_digits.specs.Digits.{hex};
-ghost use Rattle.mw_isa.specs.Text.{line, event_words, kind_word, status_word, fresh_words, why_words, end_words, event_lines, end_line};
+ghost use Rattle.mw_isa.specs.Text.{kind_word, status_word, fresh_words, why_words, end_words, event_lines, end_line};
 ghost use Rattle.mw_isa.specs.Reading.{FitsEvent, FitsWhy, FitsEnd};
 
-use crate::words::{add_hex, instruction};
+use crate::event_line::set_event;
+use crate::words::add_hex;
+use arrayvec::ArrayVec;
 use mw_bits::Bytes;
 use mw_digits::add_decimal;
 use mw_isa::{Access, BlockStatus, End, Event, Fresh, Kind, Why};
 use std::alloc::AllocError as NoMemory;
-
-/// Appends the first two words of an event: its kind and its cycle.
-fn add_head(text: &mut Bytes, kind: u8, cycle: u64) -> Result<(), NoMemory>
-    ensures { OnOk result (text.new ≡ text.old ++ join_with_byte 32 ((kind ∷ []) ∷ decimal cycle ∷ [])) }
-{
-    text.add(&[kind, b' '])?;
-    add_decimal(text, cycle)
-}
-
-/// Appends the word behind a prefix, if there is one.
-fn add_suffix(text: &mut Bytes, suffix: Option<u32>) -> Result<(), NoMemory>
-    ensures { OnOk result (text.new ≡ text.old ++ option_map_or (λ word. 32 ∷ hex 8 word) suffix []) }
-{
-    if let Some(word) = suffix {
-        add_hex(text, 8, u64::from(word))?;
-    }
-    Ok(())
-}
-
-/// Appends the words of an event.
-fn add_words(text: &mut Bytes, event: Event) -> Result<(), NoMemory>
-    ensures words { OnOk result (text.new ≡ text.old ++ join_with_byte 32 (event_words event)) }
-    ensures fits { OnOk result (FitsEvent event) }
-{
-    match event {
-        Event::Retire {
-            cycle,
-            cia,
-            word,
-            suffix,
-        } => {
-            add_head(text, b'R', cycle)?;
-            text.add(&instruction(cia, word))?;
-            add_suffix(text, suffix)
-        }
-        Event::Trap { cycle, cia, vector } => {
-            add_head(text, b'T', cycle)?;
-            add_hex(text, 16, cia)?;
-            add_hex(text, 4, vector.address())
-        }
-        Event::Irq { cycle, nia, vector } => {
-            add_head(text, b'I', cycle)?;
-            add_hex(text, 16, nia)?;
-            add_hex(text, 4, vector.address())
-        }
-    }
-}
-
-/// Appends the line of an event.
-#[tactic(auto, unfolding(mw_isa::specs::Text::line))]
-fn add_event(text: &mut Bytes, event: Event) -> Result<(), NoMemory>
-    ensures line { OnOk result (text.new ≡ text.old ++ line (event_words event)) }
-    ensures fits { OnOk result (FitsEvent event) }
-{
-    add_words(text, event)?;
-    text.add(b"\n")
-}
 
 /// Appends the lines of the events.
 pub fn add_events(text: &mut Bytes, events: &[Event]) -> Result<(), NoMemory>
     ensures lines { OnOk result (text.new ≡ text.old ++ event_lines events.now) }
     ensures fit { OnOk result (All FitsEvent events.now) }
 {
+    let mut row = ArrayVec::new();
     for event in events {
-        add_event(text, *event)?;
+        set_event(&mut row, *event);
+        text.add(row.as_slice())?;
     }
     Ok(())
 }
