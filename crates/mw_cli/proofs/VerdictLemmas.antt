@@ -11,6 +11,7 @@ use Rattle.mw_cli.specs.declared.status.Status.TheVariants.{Done, ReadFault, Ima
 use Rattle.mw_cli.specs.declared.refusal.Refusal.{Refusal}
 use Rattle.mw_cli.specs.declared.refusal.Refusal.TheVariants.{Unreadable, Unwritable, TooLarge, Bad, OutOfMemory}
 use Rattle.mw_cli.specs.declared.product.Product.{Product}
+use Rattle.mw_cli.specs.Products.{bytes_of}
 use Rattle.mw_words.specs.Grammar.{RunOrder, SeedOrder, Order, Run, Assemble, Disassemble, Generate}
 use Rattle.mw_cli.specs.Files.{Wanted, files_of, script_files}
 use Rattle.mw_cli.specs.Headline.{SpellsRun, SumsUp}
@@ -114,7 +115,7 @@ no-content None = tt
 no-content (Some told) = refl
 
 -- a seed gives the summary of a run
-pub gives-seed : {E : Type 0} (host : Change HostState) (order : SeedOrder) (r : Result Product E) → IfOk r (λ product. SumsUp order product.bytes product.end) → IfOk r (λ product. Gives host (Generate order) product.bytes product.end)
+pub gives-seed : {E : Type 0} (host : Change HostState) (order : SeedOrder) (r : Result Product E) → IfOk r (λ product. SumsUp order (bytes_of product) product.end) → IfOk r (λ product. Gives host (Generate order) (bytes_of product) product.end)
 gives-seed host order (Ok product) sums = (SummaryOf order, ([], no-content host.before.files, refl), sums)
 gives-seed host order (Err error) sums = tt
 
@@ -207,8 +208,8 @@ run-stops host order Unwritable cause = absurd cause
 run-stops host order OutOfMemory cause = tt
 
 -- what a run gives, and why it gives nothing
-pub run-gives : (host : Change HostState) (order : RunOrder) (image : List ℕ) (script : List (ℕ × ℕ)) (r : Result Product Refusal) → IsStart host order image script → IfOk r (λ product. SpellsRun (run_by order image script) product.bytes) → IfOk r (λ product. product.end ≡ end_of product.bytes) → IfOk r (λ product. Gives host (Run order) product.bytes product.end)
-run-gives host order image script (Ok product) start spells ends = gives-run host order image script product.bytes product.end start spells ends
+pub run-gives : (host : Change HostState) (order : RunOrder) (image : List ℕ) (script : List (ℕ × ℕ)) (r : Result Product Refusal) → IsStart host order image script → IfOk r (λ product. SpellsRun (run_by order image script) (bytes_of product)) → IfOk r (λ product. product.end ≡ end_of (bytes_of product)) → IfOk r (λ product. Gives host (Run order) (bytes_of product) product.end)
+run-gives host order image script (Ok product) start spells ends = gives-run host order image script (bytes_of product) product.end start spells ends
 run-gives host order image script (Err refusal) start spells ends = tt
 
 pub run-refused : {T : Type 0} (host : Change HostState) (order : Order) (r : Result T Refusal) → IfErr r IsRunRefusal → IfErr r (GivesNothing host order)

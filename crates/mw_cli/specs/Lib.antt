@@ -7,3 +7,4 @@ pub mod Outside
 pub mod Numbers
 pub mod Answers
 pub mod Stages
+pub mod Products

@@ -13,6 +13,7 @@ mod script;
 mod seeded;
 mod status;
 mod transfer;
+mod writing;
 
 pub use main_call::mw_main;
 pub use mw_generator::generate;

@@ -1,4 +1,4 @@
-ghost use Rattle.std.specs.Prelude.{◌≡◌, map, string_bytes, IfOk, IfErr, IsTrue};
+ghost use Rattle.std.specs.Prelude.{◌≡◌, None, map, string_bytes, IfOk, IfErr, IsTrue};
 ghost use Rattle.mw_io.specs.Outside.{Counts};
 ghost use Rattle.mw_cli.specs.declared.status.Status.TheVariants.{ReadFault};
 ghost use Rattle.mw_words.specs.Grammar.{order_of};
@@ -7,6 +7,7 @@ ghost use Rattle.mw_cli.specs.Files.{files_of};
 ghost use Rattle.mw_cli.specs.Outside.{change};
 ghost use Rattle.mw_cli.specs.Numbers.{status_of};
 ghost use Rattle.mw_cli.specs.Answers.{Gives, Goes, StaysWithout, Written, Says, Faults, Answers, GoesThrough};
+ghost use Rattle.mw_cli.specs.Products.{bytes_of};
 ghost use Rattle.mw_cli.specs.Stages.{ending, final, GivesNothing, HasCause};
 
 use crate::assembly::image_of;
@@ -17,8 +18,10 @@ use crate::report::{report, report_usage};
 use crate::run::run;
 use crate::seeded::run_of_seed;
 use crate::status::{Status, ended};
-use crate::transfer::write_out;
+use crate::writing::write_product;
+use mw_bits::Bytes;
 use mw_io::{Host, Sink};
+use mw_isa::Events;
 use mw_words::{Command, WordsFault, read_words};
 use std::alloc::Global;
 
@@ -35,6 +38,18 @@ fn status_of(refusal: Refusal<'_>) -> Status
     }
 }
 
+/// A product that tells of no run.
+fn without_run(alloc: Global, rest: Bytes) -> Product
+    ensures bytes { bytes_of result ≡ rest }
+    ensures end { result.end ≡ None }
+{
+    Product {
+        events: Events::new(alloc),
+        rest,
+        end: None,
+    }
+}
+
 /// What a command writes, and the end of its run. An `Err` says why there is nothing to write.
 fn output_of<'a, H: Host>(
     alloc: Global,
@@ -42,7 +57,7 @@ fn output_of<'a, H: Host>(
     host: &mut H,
 ) -> Result<Product, Refusal<'a>>
     requires bounded { IsBounded command.now }
-    ensures gives { IfOk result (λ product. Gives (change (H.state host.old) (H.state host.new)) (order_in command.now) product.bytes product.end) }
+    ensures gives { IfOk result (λ product. Gives (change (H.state host.old) (H.state host.new)) (order_in command.now) (bytes_of product) product.end) }
     ensures refused { IfErr result (GivesNothing (change (H.state host.old) (H.state host.new)) (order_in command.now)) }
     ensures faults { Counts (H.state host.old).faults (H.state host.new).faults (ending result ≡ ReadFault) }
     ensures goes { Goes (change (H.state host.old) (H.state host.new)) (files_of (order_in command.now)) (ending result) }
@@ -53,11 +68,11 @@ fn output_of<'a, H: Host>(
     match command {
         Command::Run(command) => run(alloc, command, host),
         Command::Assemble { source } => match image_of(alloc, *source, host) {
-            Ok(bytes) => Ok(Product { bytes, end: None }),
+            Ok(rest) => Ok(without_run(alloc, rest)),
             Err(refusal) => Err(refusal),
         },
         Command::Disassemble { image } => match listing_of(alloc, *image, host) {
-            Ok(bytes) => Ok(Product { bytes, end: None }),
+            Ok(rest) => Ok(without_run(alloc, rest)),
             Err(refusal) => Err(refusal),
         },
         Command::Generate { seed, cycles } => run_of_seed(alloc, *seed, *cycles),
@@ -86,7 +101,7 @@ fn fulfil<'a, H: Host, S: Sink>(
         Ok(product) => product,
         Err(refusal) => return Err(refusal),
     };
-    match write_out(out, product.bytes.as_slice()) {
+    match write_product(out, &product) {
         Ok(()) => Ok(ended(product.end)),
         Err(refusal) => Err(refusal),
     }

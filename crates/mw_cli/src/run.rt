@@ -9,6 +9,7 @@ ghost use Rattle.mw_io.specs.Outside.{Counts};
 ghost use Rattle.mw_cli.specs.declared.status.Status.TheVariants.{ReadFault};
 ghost use Rattle.mw_cli.specs.Outside.{change};
 ghost use Rattle.mw_cli.specs.Answers.{Gives, Goes};
+ghost use Rattle.mw_cli.specs.Products.{bytes_of};
 ghost use Rattle.mw_cli.specs.Stages.{ending, IsRunRefusal, GivesNothing, IsStart};
 
 use crate::product::Product;
@@ -18,7 +19,7 @@ use crate::transfer::read_image;
 use mw_board::{RunFault, simulate};
 use mw_io::Host;
 use mw_isa::Span;
-use mw_trace::print;
+use mw_trace::{events_fit, print_behind};
 use mw_uart::Script;
 use mw_words::RunCommand;
 use std::alloc::Global;
@@ -43,8 +44,8 @@ fn text_of_run<'a>(
     requires fits { length image.now ≤ ram_size }
     requires few { cycles ≤ 4000000 }
     requires room { IfSome dump (λ span. span.at + span.len ≤ ram_size) }
-    ensures text { IfOk result (λ product. SpellsRun (run_of image.now script.now cycles dump) product.bytes) }
-    ensures end { IfOk result (λ product. product.end ≡ end_of product.bytes) }
+    ensures text { IfOk result (λ product. SpellsRun (run_of image.now script.now cycles dump) (bytes_of product)) }
+    ensures end { IfOk result (λ product. product.end ≡ end_of (bytes_of product)) }
     ensures refused { IfErr result IsRunRefusal }
 {
     let run = match simulate(alloc, image, script, cycles) {
@@ -52,9 +53,11 @@ fn text_of_run<'a>(
         Err(RunFault::ImageTooLarge) => return Err(Refusal::TooLarge),
         Err(RunFault::NoMemory) => return Err(Refusal::OutOfMemory),
     };
-    match print(alloc, run.events.as_slice(), &run.end, &run.state, dump) {
-        Ok(bytes) => Ok(Product {
-            bytes,
+    events_fit(run.events.as_slice());
+    match print_behind(alloc, &run.end, &run.state, dump) {
+        Ok(rest) => Ok(Product {
+            events: run.events,
+            rest,
             end: Some(run.end),
         }),
         Err(_) => Err(Refusal::OutOfMemory),
@@ -98,7 +101,7 @@ pub fn run<'a, H: Host>(
 ) -> Result<Product, Refusal<'a>>
     requires few { command.now.cycles ≤ 4000000 }
     requires room { IsInRam command.now.dump }
-    ensures gives { IfOk result (λ product. Gives (change (H.state host.old) (H.state host.new)) (Run (run_in command.now)) product.bytes product.end) }
+    ensures gives { IfOk result (λ product. Gives (change (H.state host.old) (H.state host.new)) (Run (run_in command.now)) (bytes_of product) product.end) }
     ensures refused { IfErr result (GivesNothing (change (H.state host.old) (H.state host.new)) (Run (run_in command.now))) }
     ensures faults { Counts (H.state host.old).faults (H.state host.new).faults (ending result ≡ ReadFault) }
     ensures goes { Goes (change (H.state host.old) (H.state host.new)) (files_of (Run (run_in command.now))) (ending result) }

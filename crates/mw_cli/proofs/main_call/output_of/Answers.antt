@@ -4,6 +4,7 @@ use Rattle.mw_words.specs.Commands.{order_in}
 use Rattle.mw_cli.specs.declared.product.Product.{Product}
 use Rattle.mw_cli.specs.Files.{files_of}
 use Rattle.mw_cli.specs.Outside.{change}
+use Rattle.mw_cli.specs.Products.{bytes_of}
 use Rattle.mw_cli.specs.Answers.{Gives, Goes}
 use Rattle.mw_cli.specs.Stages.{ending, GivesNothing}
 use Rattle.mw_cli.proofs.VerdictLemmas.{gives-seed, run-refused, run-calm}
@@ -14,7 +15,7 @@ pub returns-in-Generate-clause-gives : goal.returns-in-Generate-clause-gives
 returns-in-Generate-clause-gives g c =
     let host = change (g.H.Host.state c.args.host.now) (g.H.Host.state c.args.host.now) in
     let order : SeedOrder = record { seed = c.in-Generate.seed; cycles = c.in-Generate.cycles } in
-    subst (λ (o : Order). IfOk c.run_of_seed.result (λ product. Gives host o product.bytes product.end)) (sym (ap order_in c.in-Generate.is)) (gives-seed host order c.run_of_seed.result c.run_of_seed.ensures.sums)
+    subst (λ (o : Order). IfOk c.run_of_seed.result (λ product. Gives host o (bytes_of product) product.end)) (sym (ap order_in c.in-Generate.is)) (gives-seed host order c.run_of_seed.result c.run_of_seed.ensures.sums)
 
 pub returns-in-Generate-clause-refused : goal.returns-in-Generate-clause-refused
 returns-in-Generate-clause-refused g c =
