@@ -16,14 +16,17 @@ fn each_call_fails_in_turn(rt: HostRuntime) -> Result<(), Fail> {
         "0000000000000004",
         "7fffb1df",
     )?;
-    // of the host: to open the file, to read it, to see its end; of out: to take the text; of err: a piece of the line
+    // of the host: to open the file, to read it, to see its end; of out: to take the lines of 1,024 events, 20 times, and
+    // then the rest; of err: a piece of the line
     for (of_host, of_out, of_err, want, said) in [
         (0, never, never, Status::ReadFault, unread),
         (1, never, never, Status::ReadFault, unread),
         (2, never, never, Status::ReadFault, unread),
         (3, never, never, Status::Done, ""),
         (never, 0, never, Status::WriteFault, "mw: cannot write\n"),
-        (never, 1, never, Status::Done, ""),
+        (never, 1, never, Status::WriteFault, "mw: cannot write\n"),
+        (never, 20, never, Status::WriteFault, "mw: cannot write\n"),
+        (never, 21, never, Status::Done, ""),
         (0, never, 0, Status::ReadFault, ""),
         (0, never, 1, Status::ReadFault, "mw: cannot read "),
         (0, never, 2, Status::ReadFault, "mw: cannot read img"),
@@ -47,7 +50,20 @@ fn each_call_fails_in_turn(rt: HostRuntime) -> Result<(), Fail> {
                 "{of_host} {of_out} {of_err}"
             );
         } else {
-            assert!(rt; out.as_slice().is_empty(), "{of_host} {of_out} {of_err}");
+            let none = of_out == 0 || want == Status::ReadFault;
+            assert_eq!(rt;
+                out.as_slice().is_empty(),
+                none,
+                "{of_host} {of_out} {of_err}"
+            );
+            assert!(rt;
+                out.as_slice().len() < text.len(),
+                "{of_host} {of_out} {of_err}"
+            );
+            assert!(rt;
+                text.as_bytes().starts_with(out.as_slice()),
+                "{of_host} {of_out} {of_err}"
+            );
         }
         assert_eq!(rt;
             err.as_slice(),

@@ -1,6 +1,7 @@
+use arrayvec::ArrayVec;
 use mw_board::simulate;
 use mw_isa::{End, Event, Vector};
-use mw_trace::{end_line, event_lines, print, read};
+use mw_trace::{end_line, event_lines, print, print_behind, read, set_lines};
 use mw_uart::Script;
 use std::alloc::{AllocError as NoMemory, Global};
 use std::test::Fail;
@@ -152,6 +153,12 @@ fn a_run_takes_both_interrupts(rt: HostRuntime) -> Result<(), Fail> {
             let text = print(alloc, run.events.as_slice(), &run.end, &run.state, None)?;
             let wanted = text_of_run(alloc)?;
             assert!(rt; text.as_slice() == wanted.as_bytes());
+            let mut piece = ArrayVec::new();
+            set_lines(&mut piece, run.events.as_slice());
+            let behind = print_behind(alloc, &run.end, &run.state, None)?;
+            let (front, rest) = wanted.as_bytes().split_at(piece.as_slice().len());
+            assert!(rt; piece.as_slice() == front);
+            assert!(rt; behind.as_slice() == rest);
         }
         Err(fault) => panic!(rt; "{fault:?}"),
     }

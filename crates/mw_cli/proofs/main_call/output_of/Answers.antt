@@ -1,12 +1,11 @@
-use Rattle.std.proofs.Common.{ℕ, List, IfOk, IfErr, refl, sym, ap, subst}
+use Rattle.std.proofs.Common.{IfOk, refl, sym, ap, subst}
 use Rattle.mw_words.specs.Grammar.{Order, SeedOrder}
 use Rattle.mw_words.specs.Commands.{order_in}
-use Rattle.mw_cli.specs.declared.product.Product.{Product}
 use Rattle.mw_cli.specs.Files.{files_of}
 use Rattle.mw_cli.specs.Outside.{change}
 use Rattle.mw_cli.specs.Products.{bytes_of}
 use Rattle.mw_cli.specs.Answers.{Gives, Goes}
-use Rattle.mw_cli.specs.Stages.{ending, GivesNothing}
+use Rattle.mw_cli.specs.Stages.{ending}
 use Rattle.mw_cli.proofs.VerdictLemmas.{gives-seed, run-refused, run-calm}
 use Rattle.mw_cli.proofs.GoesLemmas.{goes-without}
 use Rattle.mw_cli.proofs.main_call.output_of.Goals as goal

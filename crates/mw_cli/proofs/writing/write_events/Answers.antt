@@ -1,10 +1,9 @@
-use Rattle.std.proofs.Common.{◌≡◌, ℕ, ◌+◌, ◌-◌, ◌≤◌, List, length, take, drop, sym, ap, ◌∙◌, subst, arith}
+use Rattle.std.proofs.Common.{◌≡◌, ℕ, ◌+◌, ◌-◌, ◌≤◌, List, length, take, drop, ◌∙◌, subst, arith}
 use Rattle.mw_io.specs.Outside.{SinkState}
 use Rattle.mw_isa.specs.declared.event.Event.{Event}
 use Rattle.mw_isa.specs.Text.{event_lines}
 use Rattle.mw_cli.specs.Outside.{change, Took}
 use Rattle.mw_cli.specs.Stages.{IsWriteRefusal}
-use Rattle.mw_cli.proofs.VerdictLemmas.{stayed}
 use Rattle.mw_cli.proofs.CauseLemmas.{unwritten, unwanted}
 use Rattle.mw_cli.proofs.WritingLemmas.{lines-took, lines-refused}
 use Rattle.mw_cli.proofs.writing.write_events.Goals as goal
